@@ -1,0 +1,194 @@
+// Runs document 01's worked steps and prints what each answers, a line each.
+use libc::STDOUT_FILENO;
+use rules::Ball;
+use rules::BallStep;
+use rules::Matryoshka;
+use rules::MatryoshkaStep;
+use rules::PlainStep;
+
+fn say(text: &[u8]) {
+    io::write_all(STDOUT_FILENO, text);
+}
+
+fn say_signed(x: i64) {
+    if x < 0 {
+        say(b"-");
+    }
+    io::print_decimal(STDOUT_FILENO, whole::magnitude(x));
+}
+
+fn say_count(n: u64) {
+    say(b" ");
+    io::print_decimal(STDOUT_FILENO, n);
+}
+
+fn say_plain(question: &[u8], answer: PlainStep) {
+    say(question);
+    match answer {
+        PlainStep::Value(x) => say_signed(x),
+        PlainStep::OutOfReach => say(b"refused 11"),
+    }
+    say(b"\n");
+}
+
+fn say_ball(question: &[u8], answer: BallStep) {
+    say(question);
+    match answer {
+        BallStep::Value(b) => {
+            say_signed(b.centre);
+            say_count(b.margin);
+        }
+        BallStep::OutOfReach => say(b"refused 11"),
+    }
+    say(b"\n");
+}
+
+fn say_matryoshka(question: &[u8], answer: MatryoshkaStep) {
+    say(question);
+    match answer {
+        MatryoshkaStep::Value(m) => {
+            say_signed(m.middle);
+            say_count(m.stray);
+            say_count(m.margin);
+        }
+        MatryoshkaStep::OutOfReach => say(b"refused 11"),
+    }
+    say(b"\n");
+}
+
+// Two balls times one another at scale 4, where a unit is a sixteenth.
+fn small_products() {
+    let one = Ball {
+        centre: 1,
+        margin: 0,
+    };
+    let x = Ball {
+        centre: 24,
+        margin: 3,
+    };
+    let y = Ball {
+        centre: -10,
+        margin: 2,
+    };
+    say_ball(
+        b"F 4: (24,3) times (-10,2) is ",
+        steps::ball::multiply(4, x, y),
+    );
+    say_ball(
+        b"F 4: (1,0) times (1,0) is ",
+        steps::ball::multiply(4, one, one),
+    );
+    let up = Ball {
+        centre: 8,
+        margin: 0,
+    };
+    say_ball(
+        b"F 4: (8,0) times (1,0) is ",
+        steps::ball::multiply(4, up, one),
+    );
+    let tie = Ball {
+        centre: -8,
+        margin: 0,
+    };
+    say_ball(
+        b"F 4: (-8,0) times (1,0) is ",
+        steps::ball::multiply(4, tie, one),
+    );
+    let down = Ball {
+        centre: -9,
+        margin: 0,
+    };
+    say_ball(
+        b"F 4: (-9,0) times (1,0) is ",
+        steps::ball::multiply(4, down, one),
+    );
+}
+
+// At scale 0 nothing is rounded; the last sum is one unit past the limit.
+fn whole_units() {
+    let x = Ball {
+        centre: 3,
+        margin: 1,
+    };
+    let y = Ball {
+        centre: -5,
+        margin: 2,
+    };
+    say_ball(
+        b"F 0: (3,1) times (-5,2) is ",
+        steps::ball::multiply(0, x, y),
+    );
+    let last = Ball {
+        centre: 2147483646,
+        margin: 1,
+    };
+    let none = Ball {
+        centre: 0,
+        margin: 0,
+    };
+    let doubt = Ball {
+        centre: 0,
+        margin: 1,
+    };
+    say_ball(
+        b"F 0: (2147483646,1) plus (0,0) is ",
+        steps::ball::add(last, none),
+    );
+    say_ball(
+        b"F 0: (2147483646,1) plus (0,1) is ",
+        steps::ball::add(last, doubt),
+    );
+}
+
+fn static_products() {
+    let x = Matryoshka {
+        middle: 24,
+        stray: 3,
+        margin: 1,
+    };
+    let y = Matryoshka {
+        middle: -10,
+        stray: 2,
+        margin: 1,
+    };
+    say_matryoshka(
+        b"F 4: (24,3,1) times (-10,2,1) is ",
+        steps::matryoshka::multiply(4, x, y),
+    );
+    let one = Matryoshka {
+        middle: 1,
+        stray: 0,
+        margin: 0,
+    };
+    say_matryoshka(
+        b"F 4: (1,0,0) times (1,0,0) is ",
+        steps::matryoshka::multiply(4, one, one),
+    );
+    let unit = Matryoshka {
+        middle: 16,
+        stray: 0,
+        margin: 0,
+    };
+    let z = Matryoshka {
+        middle: 5,
+        stray: 2,
+        margin: 0,
+    };
+    say_matryoshka(
+        b"F 4: (16,0,0) times (5,2,0) is ",
+        steps::matryoshka::multiply(4, unit, z),
+    );
+}
+
+fn bare_limits() {
+    say_plain(b"M plus -1 is ", steps::plain::add(2147483647, -1));
+    say_plain(b"M plus 1 is ", steps::plain::add(2147483647, 1));
+    say_plain(b"negating M is ", steps::plain::negate(2147483647));
+}
+
+fn main() {
+    small_products();
+    whole_units();
+    static_products();
+    bare_limits();
+}

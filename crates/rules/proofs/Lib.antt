@@ -1,0 +1,7 @@
+-- The mathematics of the rules, one claim a file.
+pub mod Rounding
+pub mod Reach
+pub mod Enclosure
+pub mod Cover
+pub mod Answers
+pub mod Figures

@@ -1,0 +1,76 @@
+-- Rounding: Round moves by n when its argument moves by n·Q, it loses at most h, and it moves by at most Up of what its argument moves.
+-- Up is at least p/Q, and no whole number between is. Assumes nothing.
+use mathlib.Core.Path.{_≡_, refl, sym, _∙_, ap, ap₂, subst}
+use mathlib.Core.List.{[], _∷_}
+use Prim.Native.Nat.{ℕ, zero, suc, _+_, _-_, _*_, _/_, _^_, _≤_, _<_}
+use native.Mathlib.Nat.{le-trans, le-of-eq, le-div-iff-mul-le, lt-div-mul-add, pow-suc}
+use native.Mathlib.Omega.{arith}
+use lib.IntN.{ℤ, pos, natAbs, _+ℤ_, _-ℤ_, _*ℤ_}
+use lib.Pow.{pow-pos, shr-mono}
+use lib.Signed.{shrZ}
+use Rattle.rules.specs.Numbers.{Q, h, floor, Round, Up}
+use Rattle.whole.proofs.Floor.{rest, rest-lt, floor-split, floor-shift}
+use Rattle.whole.proofs.Ring.{ring, neg, _⊕_, _⊖_, _⊗_, x₀, x₁, x₂, x₃, x₄, x₅}
+use Rattle.whole.proofs.Size.{size-add, size-mul, size-gap}
+
+-- h is half of Q, rounded down
+pub h-half : (F : ℕ) → (h F + h F ≤ Q F) × (Q F ≤ h F + h F + 1)
+unfolding h
+h-half zero = omega arith
+h-half (suc f) = omega (arith, pow-suc 2 f)
+
+-- what Round leaves of p + h
+abbrev over : ℕ → ℤ → ℕ
+over F p = rest (p +ℤ pos (h F)) (Q F)
+
+over-lt : (F : ℕ) (p : ℤ) → over F p < Q F
+over-lt F p = rest-lt (p +ℤ pos (h F)) (pow-pos F)
+
+round-split : (F : ℕ) (p : ℤ) → p +ℤ pos (h F) ≡ Round F p *ℤ pos (Q F) +ℤ pos (over F p)
+unfolding Round
+round-split F p = floor-split (p +ℤ pos (h F)) (pow-pos F)
+
+pub round-shift : (F : ℕ) (p n : ℤ) → Round F (p +ℤ n *ℤ pos (Q F)) ≡ Round F p +ℤ n
+unfolding Round
+round-shift F p n =
+    ap (λ (z : ℤ). shrZ z (Q F)) (ring (p ∷ n ∷ pos (Q F) ∷ pos (h F) ∷ []) (x₀ ⊕ x₁ ⊗ x₂ ⊕ x₃) (x₀ ⊕ x₃ ⊕ x₁ ⊗ x₂) refl)
+    ∙ floor-shift (p +ℤ pos (h F)) n (pow-pos F)
+
+-- |p − Round(p)·Q| is | over − h |
+pub round-lost : (F : ℕ) (p : ℤ) → p -ℤ Round F p *ℤ pos (Q F) ≡ pos (over F p) -ℤ pos (h F)
+round-lost F p =
+    ring (p ∷ pos (h F) ∷ Round F p ∷ pos (Q F) ∷ []) (x₀ ⊖ x₂ ⊗ x₃) (x₀ ⊕ x₁ ⊖ x₂ ⊗ x₃ ⊖ x₁) refl
+    ∙ ap (λ (z : ℤ). z -ℤ Round F p *ℤ pos (Q F) -ℤ pos (h F)) (round-split F p)
+    ∙ ring (pos (over F p) ∷ pos (h F) ∷ Round F p ∷ pos (Q F) ∷ []) (x₂ ⊗ x₃ ⊕ x₀ ⊖ x₂ ⊗ x₃ ⊖ x₁) (x₀ ⊖ x₁) refl
+
+pub round-loss : (F : ℕ) (p : ℤ) → natAbs (p -ℤ Round F p *ℤ pos (Q F)) ≤ h F
+round-loss F p =
+    subst (λ (z : ℤ). natAbs z ≤ h F) (sym (round-lost F p))
+    (size-gap (over F p) (h F) (omega (arith, over-lt F p, h-half F)) (omega arith))
+
+pub up-covers : (F p : ℕ) → p ≤ Up F p * Q F
+unfolding Up
+up-covers F p = omega (arith, lt-div-mul-add {a = p + (Q F - 1)} (pow-pos F), pow-pos F)
+
+pub up-least : (F n p : ℕ) → n * Q F ≤ p + (Q F - 1) → n ≤ Up F p
+unfolding Up
+up-least F n p l = le-div-iff-mul-le (pow-pos F) .1 l
+
+pub up-mono : (F : ℕ) {p q : ℕ} → p ≤ q → Up F p ≤ Up F q
+unfolding Up
+up-mono F l = shr-mono F (omega arith)
+
+pub round-near : (F : ℕ) (p q : ℤ) → natAbs (Round F p -ℤ Round F q) ≤ Up F (natAbs (p -ℤ q))
+round-near F p q = up-least F _ _ (subst (λ (n : ℕ). n ≤ natAbs (p -ℤ q) + (Q F - 1)) (ap natAbs moved ∙ size-mul (Round F p -ℤ Round F q) (pos (Q F))) far)
+  where
+    moved : (p -ℤ q) +ℤ (pos (over F q) -ℤ pos (over F p)) ≡ (Round F p -ℤ Round F q) *ℤ pos (Q F)
+    moved =
+        ring (p ∷ q ∷ pos (h F) ∷ pos (over F p) ∷ pos (over F q) ∷ []) (x₀ ⊖ x₁ ⊕ (x₄ ⊖ x₃)) (x₀ ⊕ x₂ ⊖ (x₁ ⊕ x₂) ⊕ (x₄ ⊖ x₃)) refl
+        ∙ ap₂ (λ (x y : ℤ). x -ℤ y +ℤ (pos (over F q) -ℤ pos (over F p))) (round-split F p) (round-split F q)
+        ∙ ring (Round F p ∷ Round F q ∷ pos (Q F) ∷ pos (over F p) ∷ pos (over F q) ∷ [])
+        (x₀ ⊗ x₂ ⊕ x₃ ⊖ (x₁ ⊗ x₂ ⊕ x₄) ⊕ (x₄ ⊖ x₃)) ((x₀ ⊖ x₁) ⊗ x₂) refl
+
+    far : natAbs ((p -ℤ q) +ℤ (pos (over F q) -ℤ pos (over F p))) ≤ natAbs (p -ℤ q) + (Q F - 1)
+    far =
+        omega
+        (arith, size-add (p -ℤ q) (pos (over F q) -ℤ pos (over F p)), size-gap (over F q) (over F p) {n = Q F - 1} (omega (arith, over-lt F q)) (omega (arith, over-lt F p)))

@@ -1,0 +1,31 @@
+-- Document 01, "The instructions", the column "Ball".
+use Prim.Native.Nat.{ℕ, _+_, _*_}
+use lib.IntN.{ℤ, pos, natAbs, negℤ, _+ℤ_, _-ℤ_, _*ℤ_}
+use Rattle.rules.specs.declared.Ball.{Ball}
+use Rattle.rules.specs.Numbers.{Q, Round, Up}
+use Rattle.rules.specs.Values.{ball-reach}
+use Rattle.rules.specs.Operation.{Operation, constant, negate, add, subtract, multiply}
+use Rattle.rules.specs.Answer.{Answer, within-reach}
+
+abbrev pub ball : ℤ → ℕ → Ball
+ball c r = record { centre = c; margin = r }
+
+-- "the centre is c = Round(a·b); the margin is Up((|a|+r)·s + |b|·r + |a·b − c·Q|)"
+abbrev pub ball-product : ℕ → Ball → Ball → Ball
+ball-product F x y =
+    let a = x .centre in
+    let r = x .margin in
+    let b = y .centre in
+    let s = y .margin in
+    let c = Round F (a *ℤ b) in
+    ball c (Up F ((natAbs a + r) * s + natAbs b * r + natAbs (a *ℤ b -ℤ c *ℤ pos (Q F))))
+
+abbrev pub ball-result : ℕ → Operation Ball → Ball
+ball-result F (constant c) = ball c 0
+ball-result F (negate x) = ball (negℤ (x .centre)) (x .margin)
+ball-result F (add x y) = ball (x .centre +ℤ y .centre) (x .margin + y .margin)
+ball-result F (subtract x y) = ball (x .centre -ℤ y .centre) (x .margin + y .margin)
+ball-result F (multiply x y) = ball-product F x y
+
+abbrev pub ball-rule : ℕ → Operation Ball → Answer Ball
+ball-rule F o = within-reach ball-reach (ball-result F o)

@@ -1,0 +1,29 @@
+-- Document 01: "Exact arithmetic takes the same instructions on fractions, a constant c being c/Q, with no rounding and no limit."
+use mathlib.Core.Path.{_≡_}
+use Prim.Native.Nat.{ℕ, _*_, _≤_}
+use native.Mathlib.Nat.{mul-pos}
+use lib.IntN.{ℤ, pos, negℤ, _+ℤ_, _-ℤ_, _*ℤ_}
+use lib.Pow.{pow-pos}
+use Rattle.rules.specs.Numbers.{Q}
+use Rattle.rules.specs.Values.{Fraction}
+use Rattle.rules.specs.Operation.{Operation, constant, negate, add, subtract, multiply}
+
+-- n over the product of two fractions' denominators
+abbrev pub over : ℤ → Fraction → Fraction → Fraction
+over n x y =
+    record {
+      numerator = n;
+      denominator = x .denominator * y .denominator;
+      at-least-one = mul-pos (x .at-least-one) (y .at-least-one);
+    }
+
+abbrev pub across : Fraction → Fraction → ℤ
+across x y = x .numerator *ℤ pos (y .denominator)
+
+-- x is an exact result of the instruction
+abbrev pub Exact : ℕ → Operation Fraction → Fraction → Type 0
+Exact F (constant c) x = x ≡ record { numerator = c; denominator = Q F; at-least-one = pow-pos F }
+Exact F (negate a) x = x ≡ record { numerator = negℤ (a .numerator); denominator = a .denominator; at-least-one = a .at-least-one }
+Exact F (add a b) x = x ≡ over (across a b +ℤ across b a) a b
+Exact F (subtract a b) x = x ≡ over (across a b -ℤ across b a) a b
+Exact F (multiply a b) x = x ≡ over (a .numerator *ℤ b .numerator) a b

@@ -1,0 +1,10 @@
+-- Document 01's rules as definitions, in its order.
+pub mod Numbers
+pub mod Values
+pub mod Operation
+pub mod Answer
+pub mod Plain
+pub mod Balls
+pub mod Matryoshki
+pub mod Exact
+pub mod Figures

@@ -1,0 +1,32 @@
+-- Document 01, "The instructions", the column "Matryoshka".
+use Prim.Native.Nat.{ℕ, _+_, _*_}
+use lib.IntN.{ℤ, natAbs, negℤ, _+ℤ_, _-ℤ_, _*ℤ_}
+use Rattle.rules.specs.declared.Matryoshka.{Matryoshka}
+use Rattle.rules.specs.Numbers.{h, Round, Up}
+use Rattle.rules.specs.Values.{matryoshka-reach}
+use Rattle.rules.specs.Operation.{Operation, constant, negate, add, subtract, multiply}
+use Rattle.rules.specs.Answer.{Answer, within-reach}
+
+abbrev pub matryoshka : ℤ → ℕ → ℕ → Matryoshka
+matryoshka C R r = record { middle = C; stray = R; margin = r }
+
+-- "the middle is Round(A·B); the stray is Up((|A|+R)·S + |B|·R); the margin is Up((|A|+R+r)·s + (|B|+S)·r + h)"
+abbrev pub matryoshka-product : ℕ → Matryoshka → Matryoshka → Matryoshka
+matryoshka-product F x y =
+    let A = x .middle in
+    let R = x .stray in
+    let r = x .margin in
+    let B = y .middle in
+    let S = y .stray in
+    let s = y .margin in
+    matryoshka (Round F (A *ℤ B)) (Up F ((natAbs A + R) * S + natAbs B * R)) (Up F ((natAbs A + R + r) * s + (natAbs B + S) * r + h F))
+
+abbrev pub matryoshka-result : ℕ → Operation Matryoshka → Matryoshka
+matryoshka-result F (constant c) = matryoshka c 0 0
+matryoshka-result F (negate x) = matryoshka (negℤ (x .middle)) (x .stray) (x .margin)
+matryoshka-result F (add x y) = matryoshka (x .middle +ℤ y .middle) (x .stray + y .stray) (x .margin + y .margin)
+matryoshka-result F (subtract x y) = matryoshka (x .middle -ℤ y .middle) (x .stray + y .stray) (x .margin + y .margin)
+matryoshka-result F (multiply x y) = matryoshka-product F x y
+
+abbrev pub matryoshka-rule : ℕ → Operation Matryoshka → Answer Matryoshka
+matryoshka-rule F o = within-reach matryoshka-reach (matryoshka-result F o)

@@ -1,0 +1,26 @@
+-- Document 01, "The instructions": an instruction with the values of its operands, whatever kind of value those are.
+use lib.IntN.{ℤ}
+
+-- "Code 0: constant c, 1: negate, 2: add, 3: subtract, 4: multiply"
+pub data Operation (A : Type 0) : Type 0 where
+  constant : ℤ → Operation A
+  negate : A → Operation A
+  add : A → A → Operation A
+  subtract : A → A → Operation A
+  multiply : A → A → Operation A
+
+-- the same instruction, with something else made of each operand
+abbrev pub each : {A B : Type 0} → (A → B) → Operation A → Operation B
+each f (constant c) = constant c
+each f (negate a) = negate (f a)
+each f (add a b) = add (f a) (f b)
+each f (subtract a b) = subtract (f a) (f b)
+each f (multiply a b) = multiply (f a) (f b)
+
+-- the same instruction, with operands that are related one by one
+pub data Alike {A B : Type 0} (R : A → B → Type 0) : Operation A → Operation B → Type 0 where
+  constants : (c : ℤ) → Alike R (constant c) (constant c)
+  negations : {a : A} {x : B} → R a x → Alike R (negate a) (negate x)
+  sums : {a b : A} {x y : B} → R a x → R b y → Alike R (add a b) (add x y)
+  differences : {a b : A} {x y : B} → R a x → R b y → Alike R (subtract a b) (subtract x y)
+  products : {a b : A} {x y : B} → R a x → R b y → Alike R (multiply a b) (multiply x y)

@@ -1,0 +1,27 @@
+-- `add` meets its contract. Assumes nothing.
+use mathlib.Core.Path.{_∙_, ap}
+use borrow.Author.Needs.{needs}
+use lib.IntN.{ℤ}
+use Rattle.rules.specs.Values.{plain-reach}
+use Rattle.rules.specs.Answer.{within-reach}
+use Rattle.whole.proofs.Ring.{_⊕_, x₀, x₁}
+use Rattle.whole.proofs.Machine.{fits, held-is}
+use Rattle.steps.proofs.Linear.{two}
+use Rattle.steps.proofs.plain.add.Statement.{statement}
+use Rattle.steps.proofs.plain.add.Tie as tie
+
+add-keep : tie.Need-add-keep
+add-keep c = let s = c in fits (two (s .args .a) (s .args .b) (s .pre .0) (s .pre .1)) (x₀ ⊕ x₁) tt
+
+keep-requires : tie.Need-keep-requires
+keep-requires c κs = search needs
+
+returns : tie.Need-returns
+returns c F =
+    let s = c .before in
+    c .keep .ensures
+    ∙ ap (λ (z : ℤ). within-reach plain-reach z)
+    (held-is (two (s .args .a) (s .args .b) (s .pre .0) (s .pre .1)) (x₀ ⊕ x₁) tt)
+
+pub add-spec : {M : Type 1} → statement M
+add-spec = tie.close (tie.spec add-keep keep-requires returns)

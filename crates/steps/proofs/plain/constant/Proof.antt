@@ -1,0 +1,19 @@
+-- `constant` meets its contract. Assumes nothing.
+use mathlib.Core.Path.{_≡_, _∙_, ap}
+use borrow.Author.Needs.{needs}
+use lib.IntN.{ℤ}
+use mir.Syntax.{w64}
+use mir.ValLaws.{toZ-ofZ}
+use Rattle.rules.specs.Values.{plain-reach}
+use Rattle.rules.specs.Answer.{within-reach}
+use Rattle.steps.proofs.plain.constant.Statement.{statement}
+use Rattle.steps.proofs.plain.constant.Tie as tie
+
+keep-requires : tie.Need-keep-requires
+keep-requires c κs = search needs
+
+returns : tie.Need-returns
+returns c F = c .keep .ensures ∙ ap (λ (z : ℤ). within-reach plain-reach z) (toZ-ofZ w64 (c .before .args .c) (c .before .fits .c))
+
+pub constant-spec : {M : Type 1} → statement M
+constant-spec = tie.close (tie.spec keep-requires returns)

@@ -1,0 +1,26 @@
+-- `multiply` meets its contract. Assumes nothing.
+use mathlib.Core.Path.{_∙_, ap}
+use borrow.Author.Needs.{needs}
+use lib.IntN.{ℤ}
+use Rattle.rules.specs.Numbers.{Round}
+use Rattle.rules.specs.Values.{plain-reach}
+use Rattle.rules.specs.Answer.{within-reach}
+use Rattle.steps.proofs.Product.{kept-product, round-held}
+use Rattle.steps.proofs.plain.multiply.Statement.{statement}
+use Rattle.steps.proofs.plain.multiply.Tie as tie
+
+product-requires : tie.Need-product-requires
+product-requires c κs = search needs
+
+keep-requires : tie.Need-keep-requires
+keep-requires c κs = search needs
+
+returns : tie.Need-returns
+returns c =
+    let s = c .before .before in
+    c .keep .ensures
+    ∙ ap (λ (z : ℤ). within-reach plain-reach z) (round-held (s .pre .0) (s .args .a) (s .args .b) (s .pre .1) (s .pre .2)
+    (c .before .product .ensures ∙ ap (Round (s .args .scale)) (kept-product (s .args .a) (s .args .b) (s .pre .1) (s .pre .2))))
+
+pub multiply-spec : {M : Type 1} → statement M
+multiply-spec = tie.close (tie.spec product-requires keep-requires returns)

@@ -1,0 +1,28 @@
+-- `part` meets its contract: nothing of 2^scale is shifted out. Assumes nothing.
+use mathlib.Core.Path.{_≡_, sym, ap}
+use Prim.Native.Nat.{ℕ, _-_, _*_, _/_, _%_, _^_, _≤_, _<_}
+use native.Mathlib.Omega.{arith}
+use borrow.Author.Needs.{needs}
+use Rattle.whole.proofs.Machine.{one-shifted}
+use Rattle.steps.proofs.rounding.part.Statement.{statement}
+use Rattle.steps.proofs.rounding.part.Tie as tie
+use Rattle.steps.proofs.rounding.part.Reads as reads
+use Rattle.steps.proofs.rounding.part.Lts as lts
+
+unit-is : (c : lts.Start reads.Pre reads.Post) → (1 * 2 ^ c .args .scale) % 2 ^ 64 ≡ 2 ^ c .args .scale
+unit-is c = one-shifted (c .args .scale) (omega arith)
+
+shl-result : tie.Need-shl-result
+shl-result c = search needs
+
+shr-result : tie.Need-shr-result
+shr-result c = search needs
+
+sub-result : tie.Need-sub-result
+sub-result c = rw (unit-is c) (c .pre .2)
+
+returns : tie.Need-returns
+returns c = rw (unit-is c)
+
+pub part-spec : {M : Type 1} → statement M
+part-spec = tie.close (tie.spec shl-result shr-result sub-result returns)

@@ -1,0 +1,55 @@
+// The instructions on plain values.
+ghost use mathlib.Core.Path.{_≡_};
+ghost use Prim.Native.Nat.{ℕ, _≤_};
+ghost use Rattle.rules.specs.Numbers.{top-scale};
+ghost use Rattle.rules.specs.Values.{Allowed, plain-reach};
+ghost use Rattle.rules.specs.Operation.{Operation};
+ghost use Rattle.rules.specs.Answer.{within-reach, plain-answer};
+ghost use Rattle.rules.specs.Plain.{plain-rule};
+use crate::rounding;
+use rules::PlainStep;
+
+// x, or refusal 11 where |x| is over the limit.
+pub fn keep(x: i64) -> PlainStep
+    ensures { λ r. ⌜ plain-answer r ≡ within-reach plain-reach x ⌝ }
+{
+    if rounding::within(whole::magnitude(x), 0, 0) {
+        PlainStep::Value(x)
+    } else {
+        PlainStep::OutOfReach
+    }
+}
+
+pub fn constant(c: i64) -> PlainStep
+    ensures { λ r. ⌜ ((F : ℕ) → plain-answer r ≡ plain-rule F (Operation.constant c)) ⌝ }
+{
+    keep(c)
+}
+
+pub fn negate(a: i64) -> PlainStep
+    requires { ⌜ Allowed a ⌝ }
+    ensures { λ r. ⌜ ((F : ℕ) → plain-answer r ≡ plain-rule F (Operation.negate a)) ⌝ }
+{
+    keep(-a)
+}
+
+pub fn add(a: i64, b: i64) -> PlainStep
+    requires { ⌜ Allowed a × Allowed b ⌝ }
+    ensures { λ r. ⌜ ((F : ℕ) → plain-answer r ≡ plain-rule F (Operation.add a b)) ⌝ }
+{
+    keep(a + b)
+}
+
+pub fn subtract(a: i64, b: i64) -> PlainStep
+    requires { ⌜ Allowed a × Allowed b ⌝ }
+    ensures { λ r. ⌜ ((F : ℕ) → plain-answer r ≡ plain-rule F (Operation.subtract a b)) ⌝ }
+{
+    keep(a - b)
+}
+
+pub fn multiply(scale: u32, a: i64, b: i64) -> PlainStep
+    requires { ⌜ (scale ≤ top-scale) × Allowed a × Allowed b ⌝ }
+    ensures { λ r. ⌜ plain-answer r ≡ plain-rule scale (Operation.multiply a b) ⌝ }
+{
+    keep(rounding::product(scale, a, b))
+}
