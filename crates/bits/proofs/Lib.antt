@@ -1,0 +1,4 @@
+-- The laws of bits, one subject a file.
+pub mod Digits
+pub mod Gather
+pub mod Take

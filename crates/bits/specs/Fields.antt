@@ -1,0 +1,24 @@
+-- What the code's answer to taking a field stands for, over the bytes that it reads.
+use mathlib.Core.Path.{_≡_}
+use mathlib.Core.List.{List}
+use Prim.Native.Nat.{ℕ, _+_, _^_, _<_}
+use lib.ListN.{drop}
+use Rattle.rules.specs.Answer.{Answer, value, refused}
+use Rattle.bits.specs.declared.Cursor.{Cursor}
+use Rattle.bits.specs.declared.Field.{Field}
+use Rattle.bits.specs.declared.Field.the-variants.{Got, Ended}
+use Rattle.bits.specs.Bits.{bits}
+use Rattle.bits.specs.Reader.{Read, ended}
+
+-- the bits that a cursor has before it
+abbrev pub before : List ℕ → Cursor → List ℕ
+before s c = drop (c .at) (bits s)
+
+abbrev pub field-answer : List ℕ → Field → Answer (Read ℕ)
+field-answer s (Got n c) = value (record { got = n; left = before s c })
+field-answer s Ended = refused ended
+
+-- where a cursor stands after a field of w bits, which is below 2^w
+abbrev pub Advanced : Cursor → ℕ → Field → Type 0
+Advanced c w (Got n d) = (d .at ≡ c .at + w) × (n < 2 ^ w)
+Advanced c w Ended = Unit {0}

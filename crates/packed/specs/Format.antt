@@ -1,0 +1,79 @@
+-- Document 01, "The packed formula": its header, its instructions, its outputs, its padding.
+use mathlib.Core.Bool.{Bool, cond, _&&_}
+use mathlib.Core.List.{List, [], _∷_}
+use Prim.Native.Nat.{ℕ, zero, suc, _+_, _^_, _≤_}
+use lib.Dec.{ltb, eqb}
+use lib.IntN.{ℤ, pos, _-ℤ_}
+use lib.ListN.{length}
+use Rattle.bits.specs.Bits.{number}
+use Rattle.packed.specs.declared.Header.{Header}
+use Rattle.packed.specs.declared.Instruction.{Instruction}
+use Rattle.packed.specs.declared.Instruction.the-variants.{Constant, Negate, Add, Subtract, Multiply}
+use Rattle.packed.specs.Items.{Kind, version, scale, inputs, instructions, outputs, code, constant, operand, Form, done, item, _>>=_, _>>_}
+
+-- "Header, 32 bits: version .., scale .., inputs m .., instructions l .., outputs n"
+unfoldable pub header : Form Header
+header = do
+  item version
+  F ← item scale
+  m ← item inputs
+  l ← item instructions
+  n ← item outputs
+  done (record { scale = F; inputs = m; instructions = l; outputs = n })
+
+-- "The scale F is 0 to 30", "m .. (0 to 16), l .. (0 to 512), n .. (1 to 16)"
+pub record InLimits (h : Header) : Type 0 where
+  pub scale-small : h .scale ≤ 30
+  pub inputs-few : h .inputs ≤ 16
+  pub instructions-few : h .instructions ≤ 512
+  pub some-output : 1 ≤ h .outputs
+  pub outputs-few : h .outputs ≤ 16
+
+-- "in two's complement": 32 bits that stand for c from 0 on, or for c − 2^32 from 2^31 on
+unfoldable pub twos-complement : ℕ → ℤ
+twos-complement c = cond (ltb c (2 ^ 31)) (pos c) (pos c -ℤ pos (2 ^ 32))
+
+-- two operands, and what is made of them
+abbrev pub two-operands : {A : Type 0} → (ℕ → ℕ → A) → ℕ → Form A
+two-operands make v = do
+  i ← item (operand v)
+  j ← item (operand v)
+  done (make i j)
+
+-- "then a constant .., or one operand .. (code 1), or two"; they "may name only smaller values" than v, and 4 is the last permitted code
+unfoldable pub by-code : ℕ → ℕ → Form Instruction
+by-code v zero = do
+  c ← item constant
+  done (Constant (twos-complement c))
+by-code v (suc zero) = do
+  i ← item (operand v)
+  done (Negate i)
+by-code v (suc (suc zero)) = two-operands Add v
+by-code v (suc (suc (suc zero))) = two-operands Subtract v
+by-code v (suc (suc (suc (suc k)))) = two-operands Multiply v
+
+-- "Each instruction: code 3; then .."; it makes value v
+unfoldable pub instruction : ℕ → Form Instruction
+instruction v = do
+  c ← item code
+  by-code v c
+
+-- so many, one after another, the first with number v
+unfoldable pub several : {A : Type 0} → (ℕ → Form A) → ℕ → ℕ → Form (List A)
+several f zero v = done []
+several f (suc k) v = do
+  a ← f v
+  more ← several f k (suc v)
+  done (a ∷ more)
+
+-- "instruction k, from 0, makes value m+k"
+abbrev pub program : ℕ → ℕ → Form (List Instruction)
+program l m = several instruction l m
+
+-- "Then n output fields of 10 bits, each naming a value below m+l."
+abbrev pub results : ℕ → ℕ → Form (List ℕ)
+results n v = several (λ j. item (operand v)) n 0
+
+-- "Bits left in the last byte are zero; no byte follows."
+unfoldable pub is-padding : List ℕ → Bool
+is-padding bs = ltb (length bs) 8 && eqb (number bs) 0

@@ -1,0 +1,75 @@
+// All the instructions, all the outputs and the padding, tested one after another; only the place after them is kept.
+ghost use mathlib.Core.Path.{_≡_};
+ghost use Prim.Native.Nat.{_+_, _*_, _^_, _≤_};
+ghost use Rattle.bits.specs.Fields.{before};
+ghost use Rattle.packed.specs.Items.{read};
+ghost use Rattle.packed.specs.Format.{program, results, is-padding};
+ghost use Rattle.packed.specs.Answers.{passed-answer, place, PassedBy};
+use crate::InstructionRead;
+use crate::Passed;
+use crate::Refusal;
+use crate::Tested;
+use crate::fields::field_in;
+use crate::reading::read_instruction;
+use bits::Cursor;
+use bits::Field;
+
+// `count` instructions, the first of which makes value `inputs`.
+pub fn pass_instructions(s: &[u8], c: Cursor, inputs: usize, count: usize) -> Passed
+    requires { ⌜ (c .at ≤ 32) × (inputs ≤ 16) × (count ≤ 512) ⌝ }
+    ensures { λ r. ⌜ (passed-answer (now (s .entry)) r ≡ place (read (program count inputs) (before (now (s .entry)) c))) × PassedBy (35 * count) c r ⌝ }
+{
+    let mut at = c;
+    let mut k = 0;
+    loop {
+        if k == count {
+            break Passed::At(at);
+        }
+        match read_instruction(s, at, inputs + k) {
+            InstructionRead::Refused(r) => break Passed::Refused(r),
+            InstructionRead::Got(_, next) => {
+                at = next;
+                k = k + 1;
+            }
+        }
+    }
+}
+
+// `count` outputs, each naming a value below `below`.
+pub fn pass_outputs(s: &[u8], c: Cursor, below: usize, count: usize) -> Passed
+    requires { ⌜ (c .at ≤ 2 ^ 20) × (count ≤ 16) ⌝ }
+    ensures { λ r. ⌜ (passed-answer (now (s .entry)) r ≡ place (read (results count below) (before (now (s .entry)) c))) × PassedBy (10 * count) c r ⌝ }
+{
+    let mut at = c;
+    let mut k = 0;
+    loop {
+        if k == count {
+            break Passed::At(at);
+        }
+        match field_in(s, at, 10, 0, below as u64, Refusal::Operand) {
+            Tested::Refused(r) => break Passed::Refused(r),
+            Tested::Got(_, next) => {
+                at = next;
+                k = k + 1;
+            }
+        }
+    }
+}
+
+// Whether the bits left are fewer than eight, and all zero.
+pub fn padded(s: &[u8], c: Cursor) -> bool
+    requires { ⌜ c .at ≤ 2 ^ 20 ⌝ }
+    ensures { λ r. ⌜ r ≡ is-padding (before (now (s .entry)) c) ⌝ }
+{
+    let at = c.at;
+    if (at + 7) / 8 < s.len() {
+        return false;
+    }
+    if at % 8 == 0 {
+        return true;
+    }
+    match c.field(s, 8 - (at % 8) as u32) {
+        Field::Ended => true,
+        Field::Got(n, _) => n == 0,
+    }
+}

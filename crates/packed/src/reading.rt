@@ -1,0 +1,104 @@
+// An instruction with the tests of its fields; it makes value `below`.
+ghost use mathlib.Core.Path.{_≡_};
+ghost use Prim.Native.Nat.{_+_, _^_, _≤_, _<_};
+ghost use Rattle.bits.specs.Fields.{before};
+ghost use Rattle.packed.specs.Items.{read};
+ghost use Rattle.packed.specs.Format.{twos-complement, two-operands, by-code, instruction};
+ghost use Rattle.packed.specs.Answers.{Pair, pair, combined, operands-answer, instruction-answer, OperandsPast, InstructionPast};
+use crate::Instruction;
+use crate::InstructionRead;
+use crate::OperandsRead;
+use crate::Refusal;
+use crate::Tested;
+use crate::fields::field_in;
+use bits::Cursor;
+use bits::Field;
+
+// 32 bits in two's complement.
+pub fn signed(n: u64) -> i64
+    requires { ⌜ n < 2 ^ 32 ⌝ }
+    ensures { λ r. ⌜ r ≡ twos-complement n ⌝ }
+{
+    if n < 0x8000_0000 {
+        n as i64
+    } else {
+        n as i64 - 0x1_0000_0000
+    }
+}
+
+fn read_constant(s: &[u8], c: Cursor) -> InstructionRead
+    requires { ⌜ c .at ≤ 2 ^ 32 ⌝ }
+    ensures { λ r. ⌜ (instruction-answer (now (s .entry)) r ≡ read (by-code 0 0) (before (now (s .entry)) c)) × InstructionPast 32 c r ⌝ }
+{
+    match c.field(s, 32) {
+        Field::Ended => InstructionRead::Refused(Refusal::Ended),
+        Field::Got(n, d) => {
+            if n == 0x8000_0000 {
+                return InstructionRead::Refused(Refusal::Constant);
+            }
+            InstructionRead::Got(Instruction::Constant(signed(n)), d)
+        }
+    }
+}
+
+fn read_operand(s: &[u8], c: Cursor, below: usize) -> InstructionRead
+    requires { ⌜ c .at ≤ 2 ^ 32 ⌝ }
+    ensures { λ r. ⌜ (instruction-answer (now (s .entry)) r ≡ read (by-code below 1) (before (now (s .entry)) c)) × InstructionPast 10 c r ⌝ }
+{
+    match field_in(s, c, 10, 0, below as u64, Refusal::Operand) {
+        Tested::Refused(r) => InstructionRead::Refused(r),
+        Tested::Got(i, d) => InstructionRead::Got(Instruction::Negate(i as usize), d),
+    }
+}
+
+fn read_operands(s: &[u8], c: Cursor, below: usize) -> OperandsRead
+    requires { ⌜ c .at ≤ 2 ^ 31 ⌝ }
+    ensures { λ r. ⌜ (operands-answer (now (s .entry)) r ≡ read (two-operands pair below) (before (now (s .entry)) c)) × OperandsPast c r ⌝ }
+{
+    match field_in(s, c, 10, 0, below as u64, Refusal::Operand) {
+        Tested::Refused(r) => OperandsRead::Refused(r),
+        Tested::Got(i, d) => match field_in(s, d, 10, 0, below as u64, Refusal::Operand) {
+            Tested::Refused(r) => OperandsRead::Refused(r),
+            Tested::Got(j, e) => OperandsRead::Got(i as usize, j as usize, e),
+        },
+    }
+}
+
+// The instruction that a code from 2 on makes of two operands.
+pub fn combine(code: u64, i: usize, j: usize) -> Instruction
+    ensures { λ r. ⌜ r ≡ combined code i j ⌝ }
+{
+    if code == 2 {
+        return Instruction::Add(i, j);
+    }
+    if code == 3 {
+        return Instruction::Subtract(i, j);
+    }
+    Instruction::Multiply(i, j)
+}
+
+fn read_by_code(s: &[u8], c: Cursor, below: usize, code: u64) -> InstructionRead
+    requires { ⌜ c .at ≤ 2 ^ 31 ⌝ }
+    ensures { λ r. ⌜ (instruction-answer (now (s .entry)) r ≡ read (by-code below code) (before (now (s .entry)) c)) × InstructionPast 32 c r ⌝ }
+{
+    if code == 0 {
+        return read_constant(s, c);
+    }
+    if code == 1 {
+        return read_operand(s, c, below);
+    }
+    match read_operands(s, c, below) {
+        OperandsRead::Refused(r) => InstructionRead::Refused(r),
+        OperandsRead::Got(i, j, d) => InstructionRead::Got(combine(code, i, j), d),
+    }
+}
+
+pub fn read_instruction(s: &[u8], c: Cursor, below: usize) -> InstructionRead
+    requires { ⌜ c .at ≤ 2 ^ 30 ⌝ }
+    ensures { λ r. ⌜ (instruction-answer (now (s .entry)) r ≡ read (instruction below) (before (now (s .entry)) c)) × InstructionPast 35 c r ⌝ }
+{
+    match field_in(s, c, 3, 0, 5, Refusal::Code) {
+        Tested::Refused(r) => InstructionRead::Refused(r),
+        Tested::Got(code, d) => read_by_code(s, d, below, code),
+    }
+}
