@@ -130,11 +130,11 @@ by-code-gives v (suc (suc zero)) = two-gives v Add (λ i j p q. (p, q))
 by-code-gives v (suc (suc (suc zero))) = two-gives v Subtract (λ i j p q. (p, q))
 by-code-gives v (suc (suc (suc (suc k)))) = two-gives v Multiply (λ i j p q. (p, q))
 
-instruction-gives : (v : ℕ) → Gives (Smaller v) (instruction v)
+pub instruction-gives : (v : ℕ) → Gives (Smaller v) (instruction v)
 unfolding instruction
 instruction-gives v = on-asking λ c t l. by-code-gives v c
 
-several-gives : {A : Type 0} {P : ℕ → A → Type 0} {f : ℕ → Form A} → ((v : ℕ) → Gives (P v) (f v)) → (k v : ℕ) → Gives (λ l. Each P v l × (length l ≡ k)) (several f k v)
+pub several-gives : {A : Type 0} {P : ℕ → A → Type 0} {f : ℕ → Form A} → ((v : ℕ) → Gives (P v) (f v)) → (k v : ℕ) → Gives (λ l. Each P v l × (length l ≡ k)) (several f k v)
 unfolding several
 several-gives g zero v = at-once (none, refl)
 several-gives g (suc k) v = gives-bind (g v) (λ a h. gives-bind (several-gives g k (suc v)) (λ l r. at-once (one h (r .0), ap suc (r .1))))

@@ -1,0 +1,2 @@
+-- The demands, about what the jobs leave in the lists that they were lent.
+pub mod Demands

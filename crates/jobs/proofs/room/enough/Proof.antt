@@ -1,0 +1,25 @@
+-- `enough` meets its contract. Assumes nothing.
+use mathlib.Core.Path.{_≡_, sym, ap}
+use mathlib.Core.Bool.{Bool, _&&_}
+use Prim.Native.Nat.{_+_}
+use borrow.Author.Needs.{needs}
+use borrow.Author.Tests.{le-leb, lt-leb}
+use lib.Dec.{leb}
+use Rattle.jobs.proofs.room.enough.Statement.{statement}
+use Rattle.jobs.proofs.room.enough.Tie as tie
+
+add-values : tie.Need-add-values
+add-values c = search needs
+
+returns : tie.Need-returns
+returns c =
+    let a = c .before .before .args in
+    sym (ap (λ (t : Bool). t && leb (a .h .outputs) (a .output)) (lt-leb (a .h .inputs + a .h .instructions) (a .work) (c .if1 .taken)))
+
+returns-2 : tie.Need-returns-2
+returns-2 c =
+    let a = c .before .before .before .args in
+    sym (ap (λ (t : Bool). t && leb (a .h .outputs) (a .output)) (le-leb (a .h .inputs + a .h .instructions) (a .work) (c .before .if1 .left)))
+
+pub enough-spec : {M : Type 1} → statement M
+enough-spec = tie.close (tie.spec add-values returns returns-2)

@@ -1,0 +1,2 @@
+-- What each job replies and leaves in the memory that a caller lends.
+pub mod Jobs

@@ -1,0 +1,81 @@
+// Lists that a caller lends, written from the front: a list copied, or the values that output fields name picked.
+ghost use mathlib.Core.Path.{_≡_};
+ghost use mathlib.Core.List.{List, map};
+ghost use Prim.Native.Nat.{ℕ, _^_, _≤_};
+ghost use lib.IntN.{pos, natAbs};
+ghost use lib.ListN.{length, getD};
+ghost use Rattle.rules.specs.Answer.{value};
+ghost use Rattle.bits.specs.Reader.{Read};
+ghost use Rattle.bits.specs.Fields.{before};
+ghost use Rattle.packed.specs.Items.{read};
+ghost use Rattle.packed.specs.Format.{results};
+ghost use Rattle.lists.specs.Over.{over, Pickable};
+use bits::Cursor;
+use bits::Field;
+use whole::magnitude;
+
+// All of `from`, to the front of `to`.
+pub fn copy_numbers(from: &[i64], to: &mut [i64])
+    requires { ⌜ length (now from) ≤ length (now to) ⌝ }
+    ensures { λ r. ⌜ now (to .exit) ≡ over (now (from .entry)) (now (to .entry)) ⌝ }
+{
+    let mut i = 0;
+    while i < from.len() {
+        let v = from[i];
+        to[i] = v;
+        i = i + 1;
+    }
+}
+
+// The size of each of `from`, to the front of `to`.
+pub fn copy_sizes(from: &[i64], to: &mut [u64])
+    requires { ⌜ length (now from) ≤ length (now to) ⌝ }
+    ensures { λ r. ⌜ now (to .exit) ≡ over (map natAbs (now (from .entry))) (now (to .entry)) ⌝ }
+{
+    let mut i = 0;
+    while i < from.len() {
+        let v = from[i];
+        to[i] = magnitude(v);
+        i = i + 1;
+    }
+}
+
+// The values of `work` that the `count` output fields from the cursor on name, to the front of `out`.
+pub fn pick_numbers(s: &[u8], c: Cursor, count: usize, work: &[i64], out: &mut [i64])
+    requires { ⌜ (c .at ≤ 2 ^ 20) × (count ≤ 16) × (count ≤ length (now out)) × Pickable (now s) c count (length (now work)) ⌝ }
+    ensures { λ r. ⌜ ((v : ℕ) (x : Read (List ℕ)) → read (results count v) (before (now (s .entry)) c) ≡ value x → now (out .exit) ≡ over (map (λ o. getD (now (work .entry)) o (pos 0)) (x .got)) (now (out .entry))) ⌝ }
+{
+    let mut at = c;
+    let mut k = 0;
+    while k < count {
+        match at.field(s, 10) {
+            Field::Ended => return,
+            Field::Got(o, next) => {
+                let v = work[o as usize];
+                out[k] = v;
+                at = next;
+                k = k + 1;
+            }
+        }
+    }
+}
+
+// The same of values without a sign.
+pub fn pick_sizes(s: &[u8], c: Cursor, count: usize, work: &[u64], out: &mut [u64])
+    requires { ⌜ (c .at ≤ 2 ^ 20) × (count ≤ 16) × (count ≤ length (now out)) × Pickable (now s) c count (length (now work)) ⌝ }
+    ensures { λ r. ⌜ ((v : ℕ) (x : Read (List ℕ)) → read (results count v) (before (now (s .entry)) c) ≡ value x → now (out .exit) ≡ over (map (λ o. getD (now (work .entry)) o 0) (x .got)) (now (out .entry))) ⌝ }
+{
+    let mut at = c;
+    let mut k = 0;
+    while k < count {
+        match at.field(s, 10) {
+            Field::Ended => return,
+            Field::Got(o, next) => {
+                let size = work[o as usize];
+                out[k] = size;
+                at = next;
+                k = k + 1;
+            }
+        }
+    }
+}

@@ -1,0 +1,2 @@
+-- Which readings are within their limits.
+pub mod Readings

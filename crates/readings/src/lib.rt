@@ -1,0 +1,104 @@
+// The readings a caller brings: as many as were asked for, in each list that carries them, and each within its limits.
+ghost use mathlib.Core.Path.{_≡_};
+ghost use mathlib.Core.Bool.{_&&_};
+ghost use lib.Dec.{eqb};
+ghost use lib.ListN.{length};
+ghost use Rattle.readings.specs.Readings.{plain-fits, ball-fits, matryoshka-fits, all-plain, all-balls, all-matryoshki};
+use steps::rounding;
+use whole::magnitude;
+
+// Whether |x| is at most M.
+fn plain_fits(x: i64) -> bool
+    ensures { λ t. ⌜ t ≡ plain-fits x ⌝ }
+{
+    rounding::within(magnitude(x), 0, 0)
+}
+
+// Whether (c, r) is a ball.
+fn ball_fits(c: i64, r: i64) -> bool
+    ensures { λ t. ⌜ t ≡ ball-fits c r ⌝ }
+{
+    if r < 0 {
+        return false;
+    }
+    rounding::within(magnitude(c), 0, magnitude(r))
+}
+
+// Whether (c, s, r) is a matryoshka.
+fn matryoshka_fits(c: i64, s: i64, r: i64) -> bool
+    ensures { λ t. ⌜ t ≡ matryoshka-fits c s r ⌝ }
+{
+    if s < 0 {
+        return false;
+    }
+    if r < 0 {
+        return false;
+    }
+    rounding::within(magnitude(c), magnitude(s), magnitude(r))
+}
+
+// Whether these are m plain values.
+pub fn plain_readings(readings: &[i64], m: usize) -> bool
+    ensures { λ r. ⌜ r ≡ (eqb (length (now (readings .entry))) m && all-plain (now (readings .entry))) ⌝ }
+{
+    if readings.len() != m {
+        return false;
+    }
+    let mut i = 0;
+    while i < m {
+        let x = readings[i];
+        if !plain_fits(x) {
+            return false;
+        }
+        i = i + 1;
+    }
+    true
+}
+
+// Whether these are m balls.
+pub fn ball_readings(centres: &[i64], margins: &[i64], m: usize) -> bool
+    ensures { λ r. ⌜ r ≡ (eqb (length (now (centres .entry))) m && (eqb (length (now (margins .entry))) m && all-balls (now (centres .entry)) (now (margins .entry)))) ⌝ }
+{
+    if centres.len() != m {
+        return false;
+    }
+    if margins.len() != m {
+        return false;
+    }
+    let mut i = 0;
+    while i < m {
+        let c = centres[i];
+        let r = margins[i];
+        if !ball_fits(c, r) {
+            return false;
+        }
+        i = i + 1;
+    }
+    true
+}
+
+// Whether these are m matryoshki.
+pub fn admit_readings(middles: &[i64], strays: &[i64], margins: &[i64], m: usize) -> bool
+    ensures { λ r. ⌜ r ≡ (eqb (length (now (middles .entry))) m && (eqb (length (now (strays .entry))) m && (eqb (length (now (margins .entry))) m && all-matryoshki (now (middles .entry)) (now (strays .entry)) (now (margins .entry))))) ⌝ }
+{
+    if middles.len() != m {
+        return false;
+    }
+    if strays.len() != m {
+        return false;
+    }
+    if margins.len() != m {
+        return false;
+    }
+    let mut i = 0;
+    while i < m {
+        let c = middles[i];
+        let s = strays[i];
+        let r = margins[i];
+        if !matryoshka_fits(c, s, r) {
+            return false;
+        }
+        i = i + 1;
+    }
+    true
+}

@@ -1,0 +1,118 @@
+-- How far a walk has come: carrying out what is left from the values made so far gives what the whole gives from the start. One argument for
+-- every kind of values. Assumes nothing.
+use mathlib.Core.Path.{_≡_, refl, sym, _∙_, ap, ap₂, subst, subst₂}
+use mathlib.Core.List.{List, [], _∷_, _++_}
+use Prim.Native.Nat.{ℕ, zero, suc, _+_, _-_, _*_, _≤_, _<_}
+use native.Mathlib.Omega.{arith}
+use lib.ListN.{length}
+use Rattle.rules.specs.Operation.{Operation}
+use Rattle.rules.specs.Answer.{Answer, value, refused}
+use Rattle.bits.specs.declared.Cursor.{Cursor}
+use Rattle.bits.specs.Reader.{Read}
+use Rattle.bits.specs.Fields.{before}
+use Rattle.packed.specs.declared.Instruction.{Instruction}
+use Rattle.packed.specs.Items.{read}
+use Rattle.packed.specs.Format.{instruction, several}
+use Rattle.packed.specs.WellFormed.{Smaller, Each, none, one}
+use Rattle.packed.specs.Walk.{Readable, Decodes}
+use Rattle.packed.proofs.WellFormed.{same-value}
+use Rattle.formulas.specs.Run.{Walk, finished, stopped, with-values, onward, run}
+use Rattle.walks.specs.Walks.{Program}
+use Rattle.walks.proofs.Programs.{program-smaller, Split, program-split}
+
+module _ {A : Type 0} (rule : Operation A → Answer A) (d : A) where
+  pub record Onward (s : List ℕ) (c₀ c : Cursor) (m l k : ℕ) (vs₀ vs : List A) : Type 0 where
+    pub few : k ≤ l
+    pub start : Program s c₀ l m
+    pub rest : Program s c (l - k) (m + k)
+    pub same : run rule d (rest .all .got) vs ≡ run rule d (start .all .got) vs₀
+    pub last : rest .all .left ≡ start .all .left
+    pub near : c .at ≤ c₀ .at + 35 * k
+
+  -- the same instructions, with their number and the first value's number written another way
+  abbrev renamed : {s : List ℕ} {c : Cursor} {n v k w : ℕ} → n ≡ k → v ≡ w → Program s c n v → Program s c k w
+  renamed {s} {c} e f p = record { all = p .all; reads = subst₂ (λ (k w : ℕ). read (several instruction k w) (before s c) ≡ value (p .all)) e f (p .reads) }
+
+  pub onward-start : {s : List ℕ} {c : Cursor} {m l : ℕ} (vs : List A) → Program s c l m → Onward s c c m l 0 vs vs
+  onward-start {s} {c} {m} {l} vs p = record { few = omega arith; start = p; rest = renamed all first p; same = refl; last = refl; near = omega arith }
+    where
+      all : l ≡ l - 0
+      all = omega arith
+
+      first : m ≡ m + 0
+      first = omega arith
+
+  -- nothing is left to read
+  none-left : {s : List ℕ} {c₀ c : Cursor} {m l k : ℕ} {vs₀ vs : List A} (o : Onward s c₀ c m l k vs₀ vs) → k ≡ l → value (record { got = []; left = before s c }) ≡ value (o .rest .all)
+  unfolding several
+  none-left {s} {c} {m} {l} {k} o e = subst (λ (n : ℕ). read (several instruction n (m + k)) (before s c) ≡ value (o .rest .all)) zero-left (o .rest .reads)
+    where
+      zero-left : l - k ≡ 0
+      zero-left = omega arith
+
+  -- what the walk gives is what the whole run gives
+  pub onward-ends : {s : List ℕ} {c₀ c : Cursor} {m l k : ℕ} {vs₀ vs : List A} (o : Onward s c₀ c m l k vs₀ vs) → k ≡ l → run rule d (o .start .all .got) vs₀ ≡ finished vs
+  onward-ends {vs} o e =
+      sym (o .same) ∙ ap (λ (is : List Instruction). run rule d is vs) (sym (ap (λ (r : Read (List Instruction)). r .got) (same-value (none-left o e))))
+
+  -- and it stands after the instructions, however they were read
+  pub onward-stands : {s : List ℕ} {c₀ c : Cursor} {m l k : ℕ} {vs₀ vs : List A} (o : Onward s c₀ c m l k vs₀ vs) {x : Read (List Instruction)} → k ≡ l
+      → read (several instruction l m) (before s c₀) ≡ value x → (before s c ≡ x .left) × (c .at ≤ c₀ .at + 35 * l)
+  onward-stands {s} {c₀} {c} {m} {l} {k} o {x} e r = (
+    ap (λ (r : Read (List Instruction)). r .left) (same-value (none-left o e)) ∙ o .last ∙ ap (λ (r : Read (List Instruction)). r .left) (same-value (sym (o .start .reads) ∙ r)),
+    subst (λ (n : ℕ). c .at ≤ c₀ .at + 35 * n) e (o .near),
+  )
+
+  module _ {s : List ℕ} {c₀ c : Cursor} {m l k : ℕ} {vs₀ vs : List A} (o : Onward s c₀ c m l k vs₀ vs) (less : k < l) where
+    split : Split s c (l - (k + 1)) (m + k) (o .rest .all)
+    split = program-split (renamed one-left refl (o .rest))
+      where
+        one-left : l - k ≡ suc (l - (k + 1))
+        one-left = omega arith
+
+    pub onward-readable : Readable s c
+    onward-readable = record { below = m + k; all = split .here; reads = split .reads-here }
+
+    module _ {i : Instruction} {e : Cursor} (decodes : Decodes s c i e) where
+      is-here : i ≡ split .here .got
+      is-here = decodes .decoded (m + k) (split .here) (split .reads-here) .0
+
+      pub onward-smaller : Smaller (m + k) i
+      onward-smaller = subst (Smaller (m + k)) (sym is-here) (head (subst (Each Smaller (m + k)) (split .both) (program-smaller (o .rest))))
+        where
+          head : {v : ℕ} {j : Instruction} {js : List Instruction} → Each Smaller v (j ∷ js) → Smaller v j
+          head (one p ps) = p
+
+      by-step : (a : Answer A) → rule (with-values d vs i) ≡ a → run rule d (o .start .all .got) vs₀ ≡ onward vs (λ ws. run rule d (split .rest .got) ws) a
+      by-step a r =
+          sym (o .same) ∙ ap (λ (is : List Instruction). run rule d is vs) (split .both)
+          ∙ ap (λ (j : Instruction). onward vs (λ ws. run rule d (split .rest .got) ws) (rule (with-values d vs j))) (sym is-here)
+          ∙ ap (onward vs (λ ws. run rule d (split .rest .got) ws)) r
+
+      pub onward-stops : {n : ℕ} → rule (with-values d vs i) ≡ refused n → run rule d (o .start .all .got) vs₀ ≡ stopped n vs
+      onward-stops {n} r = by-step (refused n) r
+
+      pub onward-more : {v : A} → rule (with-values d vs i) ≡ value v → Onward s c₀ e m l (k + 1) vs₀ (vs ++ v ∷ [])
+      onward-more {v} r =
+          record {
+            few = omega arith;
+            start = o .start;
+            rest =
+                record {
+                  all = split .rest;
+                  reads =
+                      subst₂ (λ (w : ℕ) (bs : List ℕ). read (several instruction (l - (k + 1)) w) bs ≡ value (split .rest)) next
+                      (sym (decodes .decoded (m + k) (split .here) (split .reads-here) .1)) (split .reads-rest);
+                };
+            same = sym (by-step (value v) r);
+            last = split .last ∙ o .last;
+            near = omega (arith, decodes .near, o .near);
+          }
+        where
+          next : suc (m + k) ≡ m + (k + 1)
+          next = omega arith
+
+  -- the run of the instructions that stand at the start, however they were read
+  pub onward-whole : {s : List ℕ} {c₀ c : Cursor} {m l k : ℕ} {vs₀ vs : List A} (o : Onward s c₀ c m l k vs₀ vs) {x : Read (List Instruction)} {w : Walk A}
+      → read (several instruction l m) (before s c₀) ≡ value x → run rule d (o .start .all .got) vs₀ ≡ w → run rule d (x .got) vs₀ ≡ w
+  onward-whole {vs₀} o e r = ap (λ (y : Read (List Instruction)). run rule d (y .got) vs₀) (same-value (sym e ∙ o .start .reads)) ∙ r

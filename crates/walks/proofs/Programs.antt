@@ -1,0 +1,47 @@
+-- The instructions at a cursor: the first of them, and those after it. Assumes nothing.
+use mathlib.Core.Path.{_≡_, refl, sym, _∙_, ap}
+use mathlib.Core.List.{List, _∷_}
+use Prim.Native.Nat.{ℕ, suc}
+use Rattle.rules.specs.Answer.{Answer, value}
+use Rattle.bits.specs.declared.Cursor.{Cursor}
+use Rattle.bits.specs.Bits.{bits}
+use Rattle.bits.specs.Reader.{Read, then}
+use Rattle.bits.specs.Fields.{before}
+use Rattle.bits.proofs.Digits.{bits-are, bits-drop}
+use Rattle.packed.specs.declared.Instruction.{Instruction}
+use Rattle.packed.specs.Items.{Form, done, read, _>>=_}
+use Rattle.packed.specs.Format.{instruction, several}
+use Rattle.packed.specs.WellFormed.{Smaller, Each}
+use Rattle.packed.proofs.InTurn.{read-bind}
+use Rattle.packed.proofs.WellFormed.{first-of, same-value, read-gives, several-gives, instruction-gives}
+use Rattle.walks.specs.Walks.{Program}
+
+pub program-smaller : {s : List ℕ} {c : Cursor} {n v : ℕ} (p : Program s c n v) → Each Smaller v (p .all .got)
+program-smaller {s} {c} {n} {v} p = read-gives (several-gives instruction-gives n v) (bits-drop (c .at) (bits-are s)) (p .reads) .0
+
+-- the first instruction, and the bits after it hold the others
+pub record Split (s : List ℕ) (c : Cursor) (n v : ℕ) (all : Read (List Instruction)) : Type 0 where
+  pub here : Read Instruction
+  pub reads-here : read (instruction v) (before s c) ≡ value here
+  pub rest : Read (List Instruction)
+  pub reads-rest : read (several instruction n (suc v)) (here .left) ≡ value rest
+  pub both : all .got ≡ here .got ∷ rest .got
+  pub last : rest .left ≡ all .left
+
+pub program-split : {s : List ℕ} {c : Cursor} {n v : ℕ} (p : Program s c (suc n) v) → Split s c n v (p .all)
+unfolding several
+program-split {s} {c} {n} {v} p =
+    let after : Instruction → Form (List Instruction) = λ a. several instruction n (suc v) >>= λ more. done (a ∷ more) in
+    let a = first-of (read (instruction v) (before s c)) (λ x. read (after (x .got)) (x .left)) (sym (read-bind (instruction v) after (before s c)) ∙ p .reads) in
+    let h = a .first in
+    let b =
+    first-of (read (several instruction n (suc v)) (h .left)) (λ y. value (record { got = h .got ∷ y .got; left = y .left }))
+    (sym (read-bind (several instruction n (suc v)) (λ more. done (h .got ∷ more)) (h .left)) ∙ a .then-was) in
+    record {
+      here = h;
+      reads-here = a .was;
+      rest = b .first;
+      reads-rest = b .was;
+      both = sym (ap (λ (r : Read (List Instruction)). r .got) (same-value (b .then-was)));
+      last = ap (λ (r : Read (List Instruction)). r .left) (same-value (b .then-was));
+    }
