@@ -184,31 +184,23 @@ module _ (s : List ℕ) (cs ss rs workc : List ℤ) (works workm : List ℕ) (ou
               pub admit-same-middles : length newc ≡ length workc
               admit-same-middles = part-as-long middle (made-by walk) workc (finished .1) (lentc .0) (walked (Finished d) w .1)
 
-              pub admit-same-strays : length news ≡ length works
-              admit-same-strays = part-as-long stray (made-by walk) works (finished .1) (lent .0 .0) (walked (Finished d) w .2)
-
-              pub admit-picks-middles : (d .at ≤ 2 ^ 20) × (h .outputs ≤ 16) × (h .outputs ≤ length outputc) × Pickable s d (h .outputs) (length newc)
-              admit-picks-middles =
-                  let b = walked (Finished d) w in pickable fm (b .4) (part-lasts middle (made-by walk) workc (finished .1) (lentc .0) (b .1)) (lentc .1)
-
-              pub admit-picks-strays : (d .at ≤ 2 ^ 20) × (h .outputs ≤ 16) × (h .outputs ≤ length outputs) × Pickable s d (h .outputs) (length news)
-              admit-picks-strays =
-                  let b = walked (Finished d) w in pickable fm (b .4) (part-lasts stray (made-by walk) works (finished .1) (lent .0 .0) (b .2)) (lent .0 .1)
-
-              pub admit-picks-margins : (d .at ≤ 2 ^ 20) × (h .outputs ≤ 16) × (h .outputs ≤ length outputm) × Pickable s d (h .outputs) (length newm)
-              admit-picks-margins =
-                  let b = walked (Finished d) w in pickable fm (b .4) (part-lasts margin (made-by walk) workm (finished .1) (lent .1 .0) (b .3)) (lent .1 .1)
+              pub admit-picks : (d .at ≤ 2 ^ 20) × (h .outputs ≤ 16) × (h .outputs ≤ length outputc) × (h .outputs ≤ length outputs) × (h .outputs ≤ length outputm)
+                  × Pickable s d (h .outputs) (length newc) × Pickable s d (h .outputs) (length news) × Pickable s d (h .outputs) (length newm)
+              admit-picks =
+                  let b = walked (Finished d) w in
+                  let p = pickable fm (b .4) (part-lasts middle (made-by walk) workc (finished .1) (lentc .0) (b .1)) (lentc .1) in
+                  let y = pickable fm (b .4) (part-lasts stray (made-by walk) works (finished .1) (lent .0 .0) (b .2)) (lent .0 .1) in
+                  let q = pickable fm (b .4) (part-lasts margin (made-by walk) workm (finished .1) (lent .1 .0) (b .3)) (lent .1 .1) in
+                  (p .0, p .1, p .2, y .2, q .2, p .3, y .3, q .3)
 
               pub admit-done : {outc : List ℤ} {outs outm : List ℕ}
-                  → ((v : ℕ) (x : Read (List ℕ)) → read (results (h .outputs) v) (before s d) ≡ value x → outc ≡ over (map (λ o. getD newc o (pos 0)) (x .got)) outputc)
-                  → ((v : ℕ) (x : Read (List ℕ)) → read (results (h .outputs) v) (before s d) ≡ value x → outs ≡ over (map (λ o. getD news o 0) (x .got)) outputs)
-                  → ((v : ℕ) (x : Read (List ℕ)) → read (results (h .outputs) v) (before s d) ≡ value x → outm ≡ over (map (λ o. getD newm o 0) (x .got)) outputm)
+                  → ((v : ℕ) (x : Read (List ℕ)) → read (results (h .outputs) v) (before s d) ≡ value x
+                  → (outc ≡ over (map (λ o. getD newc o (pos 0)) (x .got)) outputc) × (outs ≡ over (map (λ o. getD news o 0) (x .got)) outputs) × (outm ≡ over (map (λ o. getD newm o 0) (x .got)) outputm))
                   → Kept newc news newm outc outs outm (Done (h .outputs))
-              admit-done p y q =
+              admit-done p =
                   let b = walked (Finished d) w in
-                  let there = outputs-there fm (b .4) in
-                  let n = h .inputs + h .instructions in
+                  let q = p (h .inputs + h .instructions) (fm .outputs) (outputs-there fm (b .4)) in
                   kept (Done (h .outputs)) refl (finished .0) (b .1) (b .2) (b .3)
-                  (part-picked middle (made-by walk) workc outputc (fm .outputs-below) (omega (arith, finished .1)) (b .1) (p n (fm .outputs) there))
-                  (part-picked stray (made-by walk) works outputs (fm .outputs-below) (omega (arith, finished .1)) (b .2) (y n (fm .outputs) there))
-                  (part-picked margin (made-by walk) workm outputm (fm .outputs-below) (omega (arith, finished .1)) (b .3) (q n (fm .outputs) there))
+                  (part-picked middle (made-by walk) workc outputc (fm .outputs-below) (omega (arith, finished .1)) (b .1) (q .0))
+                  (part-picked stray (made-by walk) works outputs (fm .outputs-below) (omega (arith, finished .1)) (b .2) (q .1))
+                  (part-picked margin (made-by walk) workm outputm (fm .outputs-below) (omega (arith, finished .1)) (b .3) (q .2))

@@ -148,23 +148,20 @@ module _ (s : List ℕ) (cs rs workc : List ℤ) (workm : List ℕ) (outputc : L
                   × (length (made-by walk) ≡ h .inputs + h .instructions)
               finished = left-done ball-rule none inputs room s fm fits u (balls-long cs (map natAbs rs) even ∙ longc) (walked (Finished d) w .0)
 
-              pub ball-picks-centres : (d .at ≤ 2 ^ 20) × (h .outputs ≤ 16) × (h .outputs ≤ length outputc) × Pickable s d (h .outputs) (length newc)
-              ball-picks-centres =
+              pub ball-picks : (d .at ≤ 2 ^ 20) × (h .outputs ≤ 16) × (h .outputs ≤ length outputc) × (h .outputs ≤ length outputm) × Pickable s d (h .outputs) (length newc) × Pickable s d (h .outputs) (length newm)
+              ball-picks =
                   let a = walked (Finished d) w in
-                  pickable fm (a .3) (part-lasts (field-of none (λ (b : Ball). b .centre)) (made-by walk) workc (finished .1) (lent .0 .0) (a .1)) (lent .0 .1)
-
-              pub ball-picks-margins : (d .at ≤ 2 ^ 20) × (h .outputs ≤ 16) × (h .outputs ≤ length outputm) × Pickable s d (h .outputs) (length newm)
-              ball-picks-margins =
-                  let a = walked (Finished d) w in
-                  pickable fm (a .3) (part-lasts (field-of none (λ (b : Ball). b .margin)) (made-by walk) workm (finished .1) (lent .1 .0) (a .2)) (lent .1 .1)
+                  let p = pickable fm (a .3) (part-lasts (field-of none (λ (b : Ball). b .centre)) (made-by walk) workc (finished .1) (lent .0 .0) (a .1)) (lent .0 .1) in
+                  let q = pickable fm (a .3) (part-lasts (field-of none (λ (b : Ball). b .margin)) (made-by walk) workm (finished .1) (lent .1 .0) (a .2)) (lent .1 .1) in
+                  (p .0, p .1, p .2, q .2, p .3, q .3)
 
               pub ball-done : {outc : List ℤ} {outm : List ℕ}
-                  → ((v : ℕ) (x : Read (List ℕ)) → read (results (h .outputs) v) (before s d) ≡ value x → outc ≡ over (map (λ o. getD newc o (pos 0)) (x .got)) outputc)
-                  → ((v : ℕ) (x : Read (List ℕ)) → read (results (h .outputs) v) (before s d) ≡ value x → outm ≡ over (map (λ o. getD newm o 0) (x .got)) outputm)
+                  → ((v : ℕ) (x : Read (List ℕ)) → read (results (h .outputs) v) (before s d) ≡ value x
+                  → (outc ≡ over (map (λ o. getD newc o (pos 0)) (x .got)) outputc) × (outm ≡ over (map (λ o. getD newm o 0) (x .got)) outputm))
                   → Kept newc newm outc outm (Done (h .outputs))
-              ball-done p q =
+              ball-done p =
                   let a = walked (Finished d) w in
-                  let there = outputs-there fm (a .3) in
+                  let q = p (h .inputs + h .instructions) (fm .outputs) (outputs-there fm (a .3)) in
                   kept (Done (h .outputs)) refl (finished .0) (a .1) (a .2)
-                  (part-picked (field-of none (λ (b : Ball). b .centre)) (made-by walk) workc outputc (fm .outputs-below) (omega (arith, finished .1)) (a .1) (p (h .inputs + h .instructions) (fm .outputs) there))
-                  (part-picked (field-of none (λ (b : Ball). b .margin)) (made-by walk) workm outputm (fm .outputs-below) (omega (arith, finished .1)) (a .2) (q (h .inputs + h .instructions) (fm .outputs) there))
+                  (part-picked (field-of none (λ (b : Ball). b .centre)) (made-by walk) workc outputc (fm .outputs-below) (omega (arith, finished .1)) (a .1) (q .0))
+                  (part-picked (field-of none (λ (b : Ball). b .margin)) (made-by walk) workm outputm (fm .outputs-below) (omega (arith, finished .1)) (a .2) (q .1))

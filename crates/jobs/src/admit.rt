@@ -10,8 +10,7 @@ use crate::room;
 use bits::Cursor;
 use lists::copy_numbers;
 use lists::copy_sizes;
-use lists::pick_numbers;
-use lists::pick_sizes;
+use lists::pick_triples;
 use packed::Checked;
 use packed::Header;
 use packed::checking::check;
@@ -52,9 +51,17 @@ fn carry_out(
     ) {
         Walked::Stopped(k) => Reply::OutOfReach(k),
         Walked::Finished(c) => {
-            pick_numbers(s, c, h.outputs, work_middles, output_middles);
-            pick_sizes(s, c, h.outputs, work_strays, output_strays);
-            pick_sizes(s, c, h.outputs, work_margins, output_margins);
+            pick_triples(
+                s,
+                c,
+                h.outputs,
+                work_middles,
+                work_strays,
+                work_margins,
+                output_middles,
+                output_strays,
+                output_margins,
+            );
             Reply::Done(h.outputs)
         }
     }

@@ -10,8 +10,7 @@ use crate::room;
 use bits::Cursor;
 use lists::copy_numbers;
 use lists::copy_sizes;
-use lists::pick_numbers;
-use lists::pick_sizes;
+use lists::pick_pairs;
 use packed::Checked;
 use packed::Header;
 use packed::checking::check;
@@ -47,8 +46,15 @@ fn carry_out(
     ) {
         Walked::Stopped(k) => Reply::OutOfReach(k),
         Walked::Finished(c) => {
-            pick_numbers(s, c, h.outputs, work_centres, output_centres);
-            pick_sizes(s, c, h.outputs, work_margins, output_margins);
+            pick_pairs(
+                s,
+                c,
+                h.outputs,
+                work_centres,
+                work_margins,
+                output_centres,
+                output_margins,
+            );
             Reply::Done(h.outputs)
         }
     }

@@ -60,10 +60,18 @@ pub fn pick_numbers(s: &[u8], c: Cursor, count: usize, work: &[i64], out: &mut [
     }
 }
 
-// The same of values without a sign.
-pub fn pick_sizes(s: &[u8], c: Cursor, count: usize, work: &[u64], out: &mut [u64])
-    requires { ⌜ (c .at ≤ 2 ^ 20) × (count ≤ 16) × (count ≤ length (now out)) × Pickable (now s) c count (length (now work)) ⌝ }
-    ensures { λ r. ⌜ ((v : ℕ) (x : Read (List ℕ)) → read (results count v) (before (now (s .entry)) c) ≡ value x → now (out .exit) ≡ over (map (λ o. getD (now (work .entry)) o 0) (x .got)) (now (out .entry))) ⌝ }
+// The same of values in two parts, so that a field is read once for both.
+pub fn pick_pairs(
+    s: &[u8],
+    c: Cursor,
+    count: usize,
+    numbers: &[i64],
+    sizes: &[u64],
+    out: &mut [i64],
+    outsizes: &mut [u64],
+)
+    requires { ⌜ (c .at ≤ 2 ^ 20) × (count ≤ 16) × (count ≤ length (now out)) × (count ≤ length (now outsizes)) × Pickable (now s) c count (length (now numbers)) × Pickable (now s) c count (length (now sizes)) ⌝ }
+    ensures { λ r. ⌜ ((v : ℕ) (x : Read (List ℕ)) → read (results count v) (before (now (s .entry)) c) ≡ value x → (now (out .exit) ≡ over (map (λ o. getD (now (numbers .entry)) o (pos 0)) (x .got)) (now (out .entry))) × (now (outsizes .exit) ≡ over (map (λ o. getD (now (sizes .entry)) o 0) (x .got)) (now (outsizes .entry)))) ⌝ }
 {
     let mut at = c;
     let mut k = 0;
@@ -71,8 +79,44 @@ pub fn pick_sizes(s: &[u8], c: Cursor, count: usize, work: &[u64], out: &mut [u6
         match at.field(s, 10) {
             Field::Ended => return,
             Field::Got(o, next) => {
-                let size = work[o as usize];
-                out[k] = size;
+                let v = numbers[o as usize];
+                let size = sizes[o as usize];
+                out[k] = v;
+                outsizes[k] = size;
+                at = next;
+                k = k + 1;
+            }
+        }
+    }
+}
+
+// The same of values in three parts.
+pub fn pick_triples(
+    s: &[u8],
+    c: Cursor,
+    count: usize,
+    numbers: &[i64],
+    sizes: &[u64],
+    margins: &[u64],
+    out: &mut [i64],
+    outsizes: &mut [u64],
+    outmargins: &mut [u64],
+)
+    requires { ⌜ (c .at ≤ 2 ^ 20) × (count ≤ 16) × (count ≤ length (now out)) × (count ≤ length (now outsizes)) × (count ≤ length (now outmargins)) × Pickable (now s) c count (length (now numbers)) × Pickable (now s) c count (length (now sizes)) × Pickable (now s) c count (length (now margins)) ⌝ }
+    ensures { λ r. ⌜ ((v : ℕ) (x : Read (List ℕ)) → read (results count v) (before (now (s .entry)) c) ≡ value x → (now (out .exit) ≡ over (map (λ o. getD (now (numbers .entry)) o (pos 0)) (x .got)) (now (out .entry))) × (now (outsizes .exit) ≡ over (map (λ o. getD (now (sizes .entry)) o 0) (x .got)) (now (outsizes .entry))) × (now (outmargins .exit) ≡ over (map (λ o. getD (now (margins .entry)) o 0) (x .got)) (now (outmargins .entry)))) ⌝ }
+{
+    let mut at = c;
+    let mut k = 0;
+    while k < count {
+        match at.field(s, 10) {
+            Field::Ended => return,
+            Field::Got(o, next) => {
+                let v = numbers[o as usize];
+                let size = sizes[o as usize];
+                let margin = margins[o as usize];
+                out[k] = v;
+                outsizes[k] = size;
+                outmargins[k] = margin;
                 at = next;
                 k = k + 1;
             }

@@ -1,7 +1,7 @@
 -- `carry_out` meets its contract. Assumes nothing.
 use borrow.Author.Needs.{needs}
 use Rattle.jobs.proofs.Formed.{formed}
-use Rattle.jobs.proofs.AdmitJob.{admit-copies-middles, admit-copies-strays, admit-copies-margins, admit-walks, admit-stopped, admit-picks-middles, admit-picks-strays, admit-picks-margins, admit-done, admit-same-middles, admit-same-strays}
+use Rattle.jobs.proofs.AdmitJob.{admit-copies-middles, admit-copies-strays, admit-copies-margins, admit-walks, admit-stopped, admit-picks, admit-done, admit-same-middles}
 use Rattle.jobs.proofs.admit.carry_out.Statement.{statement}
 use Rattle.jobs.proofs.admit.carry_out.Tie as tie
 
@@ -39,29 +39,13 @@ enum-known-k c = search needs
 enum-known-c : tie.Need-enum-known-c
 enum-known-c c = search needs
 
-pick-numbers-requires : tie.Need-pick-numbers-requires
-pick-numbers-requires c κs =
-    let a = c .before .before .before .before .before .before .before .before .before .before .before .before .before .before .before .before .before .before .before .before .before .before .before .before .before .before .before .before .before .before .args in
-    let p = c .before .before .before .before .before .before .before .before .before .before .before .before .before .before .before .before .before .before .before .before .before .before .before .before .before .before .before .before .before .before .pre in
-    let f = formed (a .s .now) (p .0) in
-    let w = rw (c .before .before .before .c .given .1) at (c .before .before .before .before .before .before .before .before .before .before .walk .ensures) in
-    admit-picks-middles (a .s .now) (a .middles .now) (a .strays .now) (a .margins .now) (a .work-middles .now) (a .work-strays .now) (a .work-margins .now) (a .output-middles .now) (a .output-strays .now) (a .output-margins .now) f (p .1) (p .2) (c .before .before .before .before .before .before .before .before .before .before .before .before .before .before .before .before .before .before .before .before .before .before .before .copy-numbers .ensures) (c .before .before .before .before .before .before .before .before .before .before .before .before .before .before .before .before .before .before .before .before .copy-sizes .ensures) (c .before .before .before .before .before .before .before .before .before .before .before .before .before .before .before .before .copy-sizes2 .ensures) w
-
-pick-sizes-requires : tie.Need-pick-sizes-requires
-pick-sizes-requires c κs =
+pick-triples-requires : tie.Need-pick-triples-requires
+pick-triples-requires c κs =
     let a = c .before .before .before .before .before .before .before .before .before .before .before .before .before .before .before .before .before .before .before .before .before .before .before .before .before .before .before .before .before .before .before .before .before .before .args in
     let p = c .before .before .before .before .before .before .before .before .before .before .before .before .before .before .before .before .before .before .before .before .before .before .before .before .before .before .before .before .before .before .before .before .before .before .pre in
     let f = formed (a .s .now) (p .0) in
     let w = rw (c .before .before .before .before .before .before .before .c .given .1) at (c .before .before .before .before .before .before .before .before .before .before .before .before .before .before .walk .ensures) in
-    admit-picks-strays (a .s .now) (a .middles .now) (a .strays .now) (a .margins .now) (a .work-middles .now) (a .work-strays .now) (a .work-margins .now) (a .output-middles .now) (a .output-strays .now) (a .output-margins .now) f (p .1) (p .2) (c .before .before .before .before .before .before .before .before .before .before .before .before .before .before .before .before .before .before .before .before .before .before .before .before .before .before .before .copy-numbers .ensures) (c .before .before .before .before .before .before .before .before .before .before .before .before .before .before .before .before .before .before .before .before .before .before .before .before .copy-sizes .ensures) (c .before .before .before .before .before .before .before .before .before .before .before .before .before .before .before .before .before .before .before .before .copy-sizes2 .ensures) w
-
-pick-sizes-requires-2 : tie.Need-pick-sizes-requires-2
-pick-sizes-requires-2 c κs =
-    let a = c .before .before .before .before .before .before .before .before .before .before .before .before .before .before .before .before .before .before .before .before .before .before .before .before .before .before .before .before .before .before .before .before .before .before .before .before .before .before .before .args in
-    let p = c .before .before .before .before .before .before .before .before .before .before .before .before .before .before .before .before .before .before .before .before .before .before .before .before .before .before .before .before .before .before .before .before .before .before .before .before .before .before .before .pre in
-    let f = formed (a .s .now) (p .0) in
-    let w = rw (c .before .before .before .before .before .before .before .before .before .before .before .before .c .given .1) at (c .before .before .before .before .before .before .before .before .before .before .before .before .before .before .before .before .before .before .before .walk .ensures) in
-    admit-picks-margins (a .s .now) (a .middles .now) (a .strays .now) (a .margins .now) (a .work-middles .now) (a .work-strays .now) (a .work-margins .now) (a .output-middles .now) (a .output-strays .now) (a .output-margins .now) f (p .1) (p .2) (c .before .before .before .before .before .before .before .before .before .before .before .before .before .before .before .before .before .before .before .before .before .before .before .before .before .before .before .before .before .before .before .before .copy-numbers .ensures) (c .before .before .before .before .before .before .before .before .before .before .before .before .before .before .before .before .before .before .before .before .before .before .before .before .before .before .before .before .before .copy-sizes .ensures) (c .before .before .before .before .before .before .before .before .before .before .before .before .before .before .before .before .before .before .before .before .before .before .before .before .before .copy-sizes2 .ensures) w
+    admit-picks (a .s .now) (a .middles .now) (a .strays .now) (a .margins .now) (a .work-middles .now) (a .work-strays .now) (a .work-margins .now) (a .output-middles .now) (a .output-strays .now) (a .output-margins .now) f (p .1) (p .2) (c .before .before .before .before .before .before .before .before .before .before .before .before .before .before .before .before .before .before .before .before .before .before .before .before .before .before .before .copy-numbers .ensures) (c .before .before .before .before .before .before .before .before .before .before .before .before .before .before .before .before .before .before .before .before .before .before .before .before .copy-sizes .ensures) (c .before .before .before .before .before .before .before .before .before .before .before .before .before .before .before .before .before .before .before .before .copy-sizes2 .ensures) w
 
 same-length : tie.Need-same-length
 same-length c = search needs
@@ -82,19 +66,14 @@ returns c =
 
 same-length-4 : tie.Need-same-length-4
 same-length-4 c =
-    let a = c .before .before .before .before .before .before .before .before .before .before .before .before .before .before .before .before .before .before .before .before .before .before .before .before .before .before .before .before .before .before .before .before .before .before .before .before .before .before .before .before .before .before .args in
-    let p = c .before .before .before .before .before .before .before .before .before .before .before .before .before .before .before .before .before .before .before .before .before .before .before .before .before .before .before .before .before .before .before .before .before .before .before .before .before .before .before .before .before .before .pre in
+    let a = c .before .before .before .before .before .before .before .before .before .before .before .before .before .before .before .before .before .before .before .before .before .before .before .before .before .before .before .before .before .before .before .before .before .before .before .before .before .before .before .before .args in
+    let p = c .before .before .before .before .before .before .before .before .before .before .before .before .before .before .before .before .before .before .before .before .before .before .before .before .before .before .before .before .before .before .before .before .before .before .before .before .before .before .before .before .pre in
     let f = formed (a .s .now) (p .0) in
-    let w = rw (c .before .before .before .before .before .before .before .before .before .before .before .before .before .before .before .c .given .1) at (c .before .before .before .before .before .before .before .before .before .before .before .before .before .before .before .before .before .before .before .before .before .before .walk .ensures) in
-    admit-same-middles (a .s .now) (a .middles .now) (a .strays .now) (a .margins .now) (a .work-middles .now) (a .work-strays .now) (a .work-margins .now) (a .output-middles .now) (a .output-strays .now) (a .output-margins .now) f (p .1) (p .2) (c .before .before .before .before .before .before .before .before .before .before .before .before .before .before .before .before .before .before .before .before .before .before .before .before .before .before .before .before .before .before .before .before .before .before .before .copy-numbers .ensures) (c .before .before .before .before .before .before .before .before .before .before .before .before .before .before .before .before .before .before .before .before .before .before .before .before .before .before .before .before .before .before .before .before .copy-sizes .ensures) (c .before .before .before .before .before .before .before .before .before .before .before .before .before .before .before .before .before .before .before .before .before .before .before .before .before .before .before .before .copy-sizes2 .ensures) w
+    let w = rw (c .before .before .before .before .before .before .before .before .before .before .before .before .before .c .given .1) at (c .before .before .before .before .before .before .before .before .before .before .before .before .before .before .before .before .before .before .before .before .walk .ensures) in
+    admit-same-middles (a .s .now) (a .middles .now) (a .strays .now) (a .margins .now) (a .work-middles .now) (a .work-strays .now) (a .work-margins .now) (a .output-middles .now) (a .output-strays .now) (a .output-margins .now) f (p .1) (p .2) (c .before .before .before .before .before .before .before .before .before .before .before .before .before .before .before .before .before .before .before .before .before .before .before .before .before .before .before .before .before .before .before .before .before .copy-numbers .ensures) (c .before .before .before .before .before .before .before .before .before .before .before .before .before .before .before .before .before .before .before .before .before .before .before .before .before .before .before .before .before .before .copy-sizes .ensures) (c .before .before .before .before .before .before .before .before .before .before .before .before .before .before .before .before .before .before .before .before .before .before .before .before .before .before .copy-sizes2 .ensures) w
 
 same-length-5 : tie.Need-same-length-5
-same-length-5 c =
-    let a = c .before .before .before .before .before .before .before .before .before .before .before .before .before .before .before .before .before .before .before .before .before .before .before .before .before .before .before .before .before .before .before .before .before .before .before .before .before .before .before .before .before .before .args in
-    let p = c .before .before .before .before .before .before .before .before .before .before .before .before .before .before .before .before .before .before .before .before .before .before .before .before .before .before .before .before .before .before .before .before .before .before .before .before .before .before .before .before .before .before .pre in
-    let f = formed (a .s .now) (p .0) in
-    let w = rw (c .before .before .before .before .before .before .before .before .before .before .before .before .before .before .before .c .given .1) at (c .before .before .before .before .before .before .before .before .before .before .before .before .before .before .before .before .before .before .before .before .before .before .walk .ensures) in
-    admit-same-strays (a .s .now) (a .middles .now) (a .strays .now) (a .margins .now) (a .work-middles .now) (a .work-strays .now) (a .work-margins .now) (a .output-middles .now) (a .output-strays .now) (a .output-margins .now) f (p .1) (p .2) (c .before .before .before .before .before .before .before .before .before .before .before .before .before .before .before .before .before .before .before .before .before .before .before .before .before .before .before .before .before .before .before .before .before .before .before .copy-numbers .ensures) (c .before .before .before .before .before .before .before .before .before .before .before .before .before .before .before .before .before .before .before .before .before .before .before .before .before .before .before .before .before .before .before .before .copy-sizes .ensures) (c .before .before .before .before .before .before .before .before .before .before .before .before .before .before .before .before .before .before .before .before .before .before .before .before .before .before .before .before .copy-sizes2 .ensures) w
+same-length-5 c = search needs
 
 same-length-6 : tie.Need-same-length-6
 same-length-6 c = search needs
@@ -110,11 +89,11 @@ same-length-9 c = search needs
 
 returns-2 : tie.Need-returns-2
 returns-2 c =
-    let a = c .before .before .before .before .before .before .before .before .before .before .before .before .before .before .before .before .before .before .before .before .before .before .before .before .before .before .before .before .before .before .before .before .before .before .before .before .before .before .before .before .before .before .args in
-    let p = c .before .before .before .before .before .before .before .before .before .before .before .before .before .before .before .before .before .before .before .before .before .before .before .before .before .before .before .before .before .before .before .before .before .before .before .before .before .before .before .before .before .before .pre in
+    let a = c .before .before .before .before .before .before .before .before .before .before .before .before .before .before .before .before .before .before .before .before .before .before .before .before .before .before .before .before .before .before .before .before .before .before .before .before .before .before .before .before .args in
+    let p = c .before .before .before .before .before .before .before .before .before .before .before .before .before .before .before .before .before .before .before .before .before .before .before .before .before .before .before .before .before .before .before .before .before .before .before .before .before .before .before .before .pre in
     let f = formed (a .s .now) (p .0) in
-    let w = rw (c .before .before .before .before .before .before .before .before .before .before .before .before .before .before .before .c .given .1) at (c .before .before .before .before .before .before .before .before .before .before .before .before .before .before .before .before .before .before .before .before .before .before .walk .ensures) in
-    admit-done (a .s .now) (a .middles .now) (a .strays .now) (a .margins .now) (a .work-middles .now) (a .work-strays .now) (a .work-margins .now) (a .output-middles .now) (a .output-strays .now) (a .output-margins .now) f (p .1) (p .2) (c .before .before .before .before .before .before .before .before .before .before .before .before .before .before .before .before .before .before .before .before .before .before .before .before .before .before .before .before .before .before .before .before .before .before .before .copy-numbers .ensures) (c .before .before .before .before .before .before .before .before .before .before .before .before .before .before .before .before .before .before .before .before .before .before .before .before .before .before .before .before .before .before .before .before .copy-sizes .ensures) (c .before .before .before .before .before .before .before .before .before .before .before .before .before .before .before .before .before .before .before .before .before .before .before .before .before .before .before .before .copy-sizes2 .ensures) w (c .before .before .before .before .before .before .before .before .before .before .before .pick-numbers .ensures) (c .before .before .before .before .before .before .before .pick-sizes .ensures) (c .before .before .pick-sizes2 .ensures)
+    let w = rw (c .before .before .before .before .before .before .before .before .before .before .before .before .before .c .given .1) at (c .before .before .before .before .before .before .before .before .before .before .before .before .before .before .before .before .before .before .before .before .walk .ensures) in
+    admit-done (a .s .now) (a .middles .now) (a .strays .now) (a .margins .now) (a .work-middles .now) (a .work-strays .now) (a .work-margins .now) (a .output-middles .now) (a .output-strays .now) (a .output-margins .now) f (p .1) (p .2) (c .before .before .before .before .before .before .before .before .before .before .before .before .before .before .before .before .before .before .before .before .before .before .before .before .before .before .before .before .before .before .before .before .before .copy-numbers .ensures) (c .before .before .before .before .before .before .before .before .before .before .before .before .before .before .before .before .before .before .before .before .before .before .before .before .before .before .before .before .before .before .copy-sizes .ensures) (c .before .before .before .before .before .before .before .before .before .before .before .before .before .before .before .before .before .before .before .before .before .before .before .before .before .before .copy-sizes2 .ensures) w (c .before .before .before .before .before .pick-triples .ensures)
 
 pub carry-out-spec : {M : Type 1} → statement M
-carry-out-spec = tie.close (tie.spec copy-numbers-requires copy-sizes-requires copy-sizes-requires-2 walk-requires enum-known-k enum-known-c pick-numbers-requires pick-sizes-requires pick-sizes-requires-2 same-length same-length-2 same-length-3 returns same-length-4 same-length-5 same-length-6 same-length-7 same-length-8 same-length-9 returns-2)
+carry-out-spec = tie.close (tie.spec copy-numbers-requires copy-sizes-requires copy-sizes-requires-2 walk-requires enum-known-k enum-known-c pick-triples-requires same-length same-length-2 same-length-3 returns same-length-4 same-length-5 same-length-6 same-length-7 same-length-8 same-length-9 returns-2)

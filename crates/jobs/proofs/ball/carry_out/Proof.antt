@@ -1,7 +1,7 @@
 -- `carry_out` meets its contract. Assumes nothing.
 use borrow.Author.Needs.{needs}
 use Rattle.jobs.proofs.Formed.{formed}
-use Rattle.jobs.proofs.BallJob.{ball-copies-centres, ball-copies-margins, ball-walks, ball-stopped, ball-picks-centres, ball-picks-margins, ball-done}
+use Rattle.jobs.proofs.BallJob.{ball-copies-centres, ball-copies-margins, ball-walks, ball-stopped, ball-picks, ball-done}
 use Rattle.jobs.proofs.ball.carry_out.Statement.{statement}
 use Rattle.jobs.proofs.ball.carry_out.Tie as tie
 
@@ -32,21 +32,13 @@ enum-known-k c = search needs
 enum-known-c : tie.Need-enum-known-c
 enum-known-c c = search needs
 
-pick-numbers-requires : tie.Need-pick-numbers-requires
-pick-numbers-requires c κs =
-    let a = c .before .before .before .before .before .before .before .before .before .before .before .before .before .before .before .before .before .before .before .before .before .args in
-    let p = c .before .before .before .before .before .before .before .before .before .before .before .before .before .before .before .before .before .before .before .before .before .pre in
+pick-pairs-requires : tie.Need-pick-pairs-requires
+pick-pairs-requires c κs =
+    let a = c .before .before .before .before .before .before .before .before .before .before .before .before .before .before .before .before .before .before .before .before .before .before .before .args in
+    let p = c .before .before .before .before .before .before .before .before .before .before .before .before .before .before .before .before .before .before .before .before .before .before .before .pre in
     let f = formed (a .s .now) (p .0) in
-    let w = rw (c .before .before .before .c .given .1) at (c .before .before .before .before .before .before .before .before .walk .ensures) in
-    ball-picks-centres (a .s .now) (a .centres .now) (a .margins .now) (a .work-centres .now) (a .work-margins .now) (a .output-centres .now) (a .output-margins .now) f (p .1) (p .2) (c .before .before .before .before .before .before .before .before .before .before .before .before .before .before .before .before .copy-numbers .ensures) (c .before .before .before .before .before .before .before .before .before .before .before .before .before .copy-sizes .ensures) w
-
-pick-sizes-requires : tie.Need-pick-sizes-requires
-pick-sizes-requires c κs =
-    let a = c .before .before .before .before .before .before .before .before .before .before .before .before .before .before .before .before .before .before .before .before .before .before .before .before .before .args in
-    let p = c .before .before .before .before .before .before .before .before .before .before .before .before .before .before .before .before .before .before .before .before .before .before .before .before .before .pre in
-    let f = formed (a .s .now) (p .0) in
-    let w = rw (c .before .before .before .before .before .before .before .c .given .1) at (c .before .before .before .before .before .before .before .before .before .before .before .before .walk .ensures) in
-    ball-picks-margins (a .s .now) (a .centres .now) (a .margins .now) (a .work-centres .now) (a .work-margins .now) (a .output-centres .now) (a .output-margins .now) f (p .1) (p .2) (c .before .before .before .before .before .before .before .before .before .before .before .before .before .before .before .before .before .before .before .before .copy-numbers .ensures) (c .before .before .before .before .before .before .before .before .before .before .before .before .before .before .before .before .before .copy-sizes .ensures) w
+    let w = rw (c .before .before .before .before .before .c .given .1) at (c .before .before .before .before .before .before .before .before .before .before .walk .ensures) in
+    ball-picks (a .s .now) (a .centres .now) (a .margins .now) (a .work-centres .now) (a .work-margins .now) (a .output-centres .now) (a .output-margins .now) f (p .1) (p .2) (c .before .before .before .before .before .before .before .before .before .before .before .before .before .before .before .before .before .before .copy-numbers .ensures) (c .before .before .before .before .before .before .before .before .before .before .before .before .before .before .before .copy-sizes .ensures) w
 
 same-length : tie.Need-same-length
 same-length c = search needs
@@ -76,11 +68,11 @@ same-length-6 c = search needs
 
 returns-2 : tie.Need-returns-2
 returns-2 c =
-    let a = c .before .before .before .before .before .before .before .before .before .before .before .before .before .before .before .before .before .before .before .before .before .before .before .before .before .before .before .before .args in
-    let p = c .before .before .before .before .before .before .before .before .before .before .before .before .before .before .before .before .before .before .before .before .before .before .before .before .before .before .before .before .pre in
+    let a = c .before .before .before .before .before .before .before .before .before .before .before .before .before .before .before .before .before .before .before .before .before .before .before .before .before .before .before .args in
+    let p = c .before .before .before .before .before .before .before .before .before .before .before .before .before .before .before .before .before .before .before .before .before .before .before .before .before .before .before .pre in
     let f = formed (a .s .now) (p .0) in
-    let w = rw (c .before .before .before .before .before .before .before .before .before .before .c .given .1) at (c .before .before .before .before .before .before .before .before .before .before .before .before .before .before .before .walk .ensures) in
-    ball-done (a .s .now) (a .centres .now) (a .margins .now) (a .work-centres .now) (a .work-margins .now) (a .output-centres .now) (a .output-margins .now) f (p .1) (p .2) (c .before .before .before .before .before .before .before .before .before .before .before .before .before .before .before .before .before .before .before .before .before .before .before .copy-numbers .ensures) (c .before .before .before .before .before .before .before .before .before .before .before .before .before .before .before .before .before .before .before .before .copy-sizes .ensures) w (c .before .before .before .before .before .before .pick-numbers .ensures) (c .before .before .pick-sizes .ensures)
+    let w = rw (c .before .before .before .before .before .before .before .before .before .c .given .1) at (c .before .before .before .before .before .before .before .before .before .before .before .before .before .before .walk .ensures) in
+    ball-done (a .s .now) (a .centres .now) (a .margins .now) (a .work-centres .now) (a .work-margins .now) (a .output-centres .now) (a .output-margins .now) f (p .1) (p .2) (c .before .before .before .before .before .before .before .before .before .before .before .before .before .before .before .before .before .before .before .before .before .before .copy-numbers .ensures) (c .before .before .before .before .before .before .before .before .before .before .before .before .before .before .before .before .before .before .before .copy-sizes .ensures) w (c .before .before .before .pick-pairs .ensures)
 
 pub carry-out-spec : {M : Type 1} → statement M
-carry-out-spec = tie.close (tie.spec copy-numbers-requires copy-sizes-requires walk-requires enum-known-k enum-known-c pick-numbers-requires pick-sizes-requires same-length same-length-2 returns same-length-3 same-length-4 same-length-5 same-length-6 returns-2)
+carry-out-spec = tie.close (tie.spec copy-numbers-requires copy-sizes-requires walk-requires enum-known-k enum-known-c pick-pairs-requires same-length same-length-2 returns same-length-3 same-length-4 same-length-5 same-length-6 returns-2)
