@@ -1,13 +1,13 @@
 -- Bits as a number: of two lists joined, of a field cut out of a list, of a number's own bits. Assumes nothing.
 use mathlib.Core.Path.{_≡_, refl, sym, _∙_, ap, ap₂, subst}
 use mathlib.Core.List.{List, [], _∷_, _++_, append-assoc}
-use Prim.Native.Nat.{ℕ, zero, suc, _+_, _-_, _*_, _/_, _%_, _^_, _≤_, _<_}
+use Prim.Native.Nat.{ℕ, zero, suc, _+_, _-_, _*_, _/_, _%_, _^_, _<_}
 use native.Mathlib.Nat.{mod-lt, mul-le-mul-right, pow-suc, add-mul, mul-assoc, add-assoc, one-mul, le-refl}
 use native.Mathlib.Numerals.{one-add}
 use native.Mathlib.Omega.{arith}
 use lib.Dec.{lit<}
 use lib.ListN.{length, take, drop, length-append, length-drop, take-append-drop}
-use lib.Pow.{pow-pos, pow-add, mod-pow-add, high, low}
+use lib.Pow.{pow-add, mod-pow-add, high, low}
 use lib.Seq.{length-take-le}
 use Rattle.bits.specs.Bits.{to-bits, bits, number}
 

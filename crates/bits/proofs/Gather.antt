@@ -1,14 +1,14 @@
 -- Eight bytes hold every field of up to 32 bits that starts in the first of them. Assumes nothing.
-use mathlib.Core.Path.{_≡_, refl, sym, _∙_, ap, ap₂, subst}
+use mathlib.Core.Path.{_≡_, refl, sym, _∙_, ap, ap₂}
 use mathlib.Core.List.{List, [], _∷_, _++_, append-assoc}
 use Prim.Native.Nat.{ℕ, zero, suc, _+_, _-_, _*_, _/_, _%_, _^_, _≤_, _<_}
-use native.Mathlib.Nat.{mod-eq-of-lt, mul-suc, add-comm, div-add-mod'}
+use native.Mathlib.Nat.{mod-eq-of-lt}
 use native.Mathlib.Numerals.{towards-suc}
 use native.Mathlib.Omega.{arith}
 use lib.ListN.{length, getD, take, drop, length-append, length-take, length-drop, take-append-drop}
-use lib.Seq.{drop-append-le, take-append-le, drop-append-add, drop-drop, length-take-le}
+use lib.Seq.{drop-append-le, take-append-le, drop-append-add, drop-drop}
 use Rattle.bits.specs.Bits.{to-bits, bits, number, window-number, WindowBytes}
-use Rattle.bits.proofs.Digits.{AreBits, bits-are, number-append, number-to-bits, number-cut, length-to-bits}
+use Rattle.bits.proofs.Digits.{bits-are, number-append, number-to-bits, number-cut, length-to-bits}
 
 pub length-bits : (s : List ℕ) → length (bits s) ≡ 8 * length s
 unfolding bits

@@ -1,7 +1,7 @@
 // A bit cursor over bytes. A field is gathered from its bytes at once, whatever bit it starts at.
 ghost use mathlib.Core.Path.{_≡_};
 ghost use Prim.Native.Nat.{_+_, _*_, _^_, _≤_, _<_};
-ghost use lib.ListN.{getD, length};
+ghost use lib.ListN.{getD};
 ghost use Rattle.bits.specs.Bits.{window-number, WindowBytes};
 ghost use Rattle.bits.specs.Reader.{field};
 ghost use Rattle.bits.specs.Fields.{before, field-answer, Advanced};

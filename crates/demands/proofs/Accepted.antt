@@ -1,7 +1,7 @@
 -- A job that answers: its formula, the inputs it ran on, all values and the outputs; and when a job answers. Once for the three kinds. Assumes nothing.
-use mathlib.Core.Path.{_≡_, refl, sym, _∙_, ap, ap₂, subst}
-use mathlib.Core.Bool.{Bool, true, false, cond}
-use mathlib.Core.List.{List, [], map}
+use mathlib.Core.Path.{_≡_, refl, _∙_, ap, ap₂}
+use mathlib.Core.Bool.{Bool, true, false}
+use mathlib.Core.List.{List, map}
 use Prim.Native.Nat.{ℕ, _+_}
 use native.Mathlib.Omega.{arith}
 use lib.ListN.{length, getD, length-map}
@@ -10,7 +10,7 @@ use Rattle.rules.specs.Answer.{Answer, value, refused}
 use Rattle.packed.specs.Meaning.{Formula}
 use Rattle.packed.specs.WellFormed.{WellFormed}
 use Rattle.formulas.specs.Run.{Walk, finished, stopped, run}
-use Rattle.formulas.specs.Job.{Result, refused-first, stopped-at, done, Said, answered, refuses, ended, if-room, with-readings, job, said, bad-readings, no-room}
+use Rattle.formulas.specs.Job.{Result, done, Said, answered, refuses, ended, if-room, with-readings, job, said}
 use Rattle.formulas.proofs.Lengths.{run-long}
 use Rattle.jobs.specs.Jobs.{if-fit}
 

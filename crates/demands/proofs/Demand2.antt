@@ -1,25 +1,24 @@
 -- Demand 2: what an accepted ball job wrote encloses exact arithmetic on every choice of fractions inside the reading margins. Assumes nothing.
-use mathlib.Core.Path.{_≡_, refl, sym, _∙_, ap, ap₂, subst}
-use mathlib.Core.Bool.{Bool, true, _&&_}
+use mathlib.Core.Path.{_≡_, sym, _∙_, ap, ap₂, subst}
+use mathlib.Core.Bool.{true, _&&_}
 use mathlib.Core.List.{List, [], _∷_, _++_, map}
-use Prim.Native.Nat.{ℕ, _+_, _≤_}
+use Prim.Native.Nat.{ℕ, _+_}
 use native.Mathlib.Omega.{arith}
 use lib.Dec.{eqb}
 use lib.IntN.{ℤ, pos, natAbs}
 use lib.ListN.{length, getD, take, length-map}
 use Rattle.rules.specs.declared.Ball.{Ball}
 use Rattle.rules.specs.Values.{Fraction, Contains}
-use Rattle.rules.specs.Answer.{value}
 use Rattle.rules.specs.Balls.{ball, ball-rule}
 use Rattle.rules.proofs.Enclosure.{exact-exists}
 use Rattle.packed.specs.declared.Header.{Header}
 use Rattle.packed.specs.declared.Instruction.{Instruction}
-use Rattle.packed.specs.Meaning.{Formula, formula}
-use Rattle.packed.specs.WellFormed.{WellFormed, Each, Smaller}
+use Rattle.packed.specs.Meaning.{formula}
+use Rattle.packed.specs.WellFormed.{Each, Smaller}
 use Rattle.packed.proofs.WellFormed.{accepted-well-formed}
 use Rattle.lists.specs.Over.{over}
 use Rattle.formulas.specs.Run.{with-values}
-use Rattle.formulas.specs.Job.{Result, answered, said, work-of, outputs-of}
+use Rattle.formulas.specs.Job.{answered, said, work-of, outputs-of}
 use Rattle.formulas.specs.Exactly.{nought, ExactRun, end, step, Rel}
 use Rattle.formulas.proofs.Enclosure.{run-encloses}
 use Rattle.walks.specs.Lists.{balls, centres-of, margins-of}

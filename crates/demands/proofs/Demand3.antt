@@ -2,14 +2,13 @@
 use mathlib.Core.Path.{_≡_, refl, sym, _∙_, ap, ap₂, subst}
 use mathlib.Core.Bool.{Bool, true}
 use mathlib.Core.List.{List, [], _∷_, map}
-use Prim.Native.Nat.{ℕ, _+_, _≤_}
+use Prim.Native.Nat.{ℕ, _+_}
 use native.Mathlib.Omega.{arith}
 use lib.IntN.{ℤ, pos, natAbs}
 use lib.ListN.{length, getD, take, length-map}
 use Rattle.rules.specs.declared.Ball.{Ball}
 use Rattle.rules.specs.declared.Matryoshka.{Matryoshka}
 use Rattle.rules.specs.Values.{Fraction, Contains, Covers}
-use Rattle.rules.specs.Answer.{value}
 use Rattle.rules.specs.Plain.{plain-rule}
 use Rattle.rules.specs.Balls.{ball, ball-rule}
 use Rattle.rules.specs.Matryoshki.{matryoshka-rule}
@@ -25,10 +24,9 @@ use Rattle.formulas.proofs.Enclosure.{run-encloses}
 use Rattle.formulas.proofs.Covering.{centres, CoveredRun, run-covers}
 use Rattle.walks.specs.Lists.{balls, centres-of, matryoshki, static-margins-of, nothing}
 use Rattle.walks.proofs.Parts.{balls-centres}
-use Rattle.walks.proofs.Triples.{evenly, matryoshki-long}
 use Rattle.jobs.specs.declared.Reply.{Reply}
 use Rattle.jobs.specs.declared.Reply.the-variants.{Done}
-use Rattle.jobs.specs.Jobs.{reply-said, has-room, plain-tested, plain-job, PlainKept, ball-tested, ball-room, ball-job, BallKept, admit-tested, admit-room, admit-job, AdmitKept}
+use Rattle.jobs.specs.Jobs.{has-room, plain-tested, plain-job, PlainKept, ball-tested, ball-room, ball-job, BallKept, admit-tested, admit-room, admit-job, AdmitKept}
 use Rattle.jobs.proofs.Lent.{over-front}
 use Rattle.jobs.proofs.PartOf.{field-of}
 use Rattle.demands.specs.Demands.{Chosen, exact-outputs, Within, Admitted}
@@ -36,7 +34,7 @@ use Rattle.demands.proofs.Outcomes.{reply-one-said}
 use Rattle.demands.proofs.Accepted.{Accepted, accepted, answers, all-made}
 use Rattle.demands.proofs.Picked.{rel-picked, covering-margins}
 use Rattle.demands.proofs.Demand2.{balls-counted}
-use Rattle.demands.proofs.Domain.{within-long, within-covered, within-tested, domain-counted}
+use Rattle.demands.proofs.Domain.{within-long, within-covered, within-tested}
 
 abbrev no-ball : Ball
 no-ball = ball (pos 0) 0

@@ -1,18 +1,17 @@
 -- Readings within a domain: as many, covered, and within their limits where the domain is. Assumes nothing.
-use mathlib.Core.Path.{_≡_, refl, sym, _∙_, ap, ap₂}
-use mathlib.Core.Bool.{Bool, true, _&&_}
-use mathlib.Core.List.{List, [], _∷_, map}
-use Prim.Native.Nat.{ℕ, suc, _+_, _≤_}
+use mathlib.Core.Path.{_≡_, refl, _∙_, ap, ap₂}
+use mathlib.Core.Bool.{true, _&&_}
+use mathlib.Core.List.{List, map}
+use Prim.Native.Nat.{suc, _+_, _≤_}
 use native.Mathlib.Nat.{le-trans}
 use native.Mathlib.Omega.{arith}
 use borrow.Author.Tests.{le-leb, eq-eqb}
-use lib.Dec.{eqb, leb}
+use lib.Dec.{eqb}
 use lib.IntN.{ℤ, natAbs}
 use lib.ListN.{length}
 use lib.Signed.{nonNeg}
-use Rattle.rules.specs.declared.Ball.{Ball}
 use Rattle.rules.specs.Numbers.{M}
-use Rattle.rules.specs.Values.{Covers, ball-reach, matryoshka-reach}
+use Rattle.rules.specs.Values.{Covers}
 use Rattle.rules.specs.Balls.{ball}
 use Rattle.rules.specs.Matryoshki.{matryoshka}
 use Rattle.rules.proofs.Cover.{covered-reach}

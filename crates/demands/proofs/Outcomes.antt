@@ -6,8 +6,6 @@ use Prim.Native.Nat.{ℕ}
 use native.Mathlib.Omega.{arith}
 use lib.Dec.{eqb}
 use lib.IntN.{ℤ}
-use lib.ListN.{length}
-use Rattle.packed.specs.declared.Refusal.{Refusal}
 use Rattle.packed.specs.declared.Refusal.the-variants.{Ended, Version, Scale, Count, Code, Operand, Constant, Padding}
 use Rattle.formulas.specs.Job.{Result, refused-first, stopped-at, done, Said, answered, refuses, said, outputs-of}
 use Rattle.jobs.specs.declared.Reply.{Reply}

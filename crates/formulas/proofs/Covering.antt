@@ -2,7 +2,7 @@
 -- centres finishes with its centres. Assumes nothing.
 use mathlib.Core.Path.{_≡_, refl, sym, _∙_, ap, ap₂, subst}
 use mathlib.Core.List.{List, [], _∷_, _++_, map}
-use Prim.Native.Nat.{ℕ, suc}
+use Prim.Native.Nat.{ℕ}
 use lib.IntN.{ℤ, pos}
 use lib.ListN.{length, getD, List·getD-map}
 use Rattle.rules.specs.declared.Ball.{Ball}
@@ -13,11 +13,11 @@ use Rattle.rules.specs.Answer.{Answer, value, refused}
 use Rattle.rules.specs.Plain.{plain-rule}
 use Rattle.rules.specs.Balls.{ball, ball-rule}
 use Rattle.rules.specs.Matryoshki.{matryoshka-rule}
-use Rattle.rules.proofs.Cover.{Covered, matryoshka-covers}
+use Rattle.rules.proofs.Cover.{matryoshka-covers}
 use Rattle.packed.specs.declared.Instruction.{Instruction}
 use Rattle.packed.specs.declared.Instruction.the-variants.{Constant, Negate, Add, Subtract, Multiply}
 use Rattle.packed.specs.WellFormed.{Smaller, Each, none, one}
-use Rattle.formulas.specs.Run.{Walk, finished, stopped, with-values, onward, run}
+use Rattle.formulas.specs.Run.{finished, with-values, onward, run}
 use Rattle.formulas.specs.Exactly.{Rel}
 use Rattle.formulas.proofs.Relations.{rel-behind, with-values-alike, one-longer}
 use Rattle.formulas.proofs.Enclosure.{never-stopped, same-values}

@@ -1,18 +1,17 @@
 -- A ball run that finishes encloses exact arithmetic: every value's ball contains the exact value. Assumes nothing.
-use mathlib.Core.Path.{_≡_, refl, sym, _∙_, ap, subst}
+use mathlib.Core.Path.{_≡_, refl, subst}
 use mathlib.Core.List.{List, [], _∷_, _++_}
-use Prim.Native.Nat.{ℕ, suc}
+use Prim.Native.Nat.{ℕ}
 use native.Mathlib.Omega.{arith}
 use lib.ListN.{length}
 use Rattle.rules.specs.declared.Ball.{Ball}
 use Rattle.rules.specs.Values.{Fraction, Contains}
 use Rattle.rules.specs.Answer.{Answer, value, refused}
 use Rattle.rules.specs.Balls.{ball-rule}
-use Rattle.rules.specs.Exact.{Exact}
 use Rattle.rules.proofs.Enclosure.{ball-contains}
 use Rattle.packed.specs.declared.Instruction.{Instruction}
 use Rattle.packed.specs.WellFormed.{Smaller, Each, none, one}
-use Rattle.formulas.specs.Run.{Walk, finished, stopped, with-values, onward, run}
+use Rattle.formulas.specs.Run.{finished, stopped, with-values, onward, run}
 use Rattle.formulas.specs.Exactly.{nought, ExactRun, end, step, Rel}
 use Rattle.formulas.proofs.Relations.{rel-behind, with-values-alike, one-longer}
 

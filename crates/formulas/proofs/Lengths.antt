@@ -7,7 +7,7 @@ use lib.ListN.{length}
 use Rattle.rules.specs.Operation.{Operation}
 use Rattle.rules.specs.Answer.{Answer, value, refused}
 use Rattle.packed.specs.declared.Instruction.{Instruction}
-use Rattle.formulas.specs.Run.{Walk, finished, stopped, with-values, onward, run}
+use Rattle.formulas.specs.Run.{finished, with-values, onward, run}
 use Rattle.formulas.proofs.Relations.{one-longer}
 use Rattle.formulas.proofs.Enclosure.{never-stopped, same-values}
 

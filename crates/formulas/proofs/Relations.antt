@@ -1,11 +1,11 @@
 -- Two lists whose elements are related one by one, and an instruction on both. Assumes nothing.
 use mathlib.Core.Path.{_≡_, refl, sym, _∙_, ap}
 use mathlib.Core.List.{List, [], _∷_, _++_}
-use Prim.Native.Nat.{ℕ, zero, suc, _+_, _≤_, _<_}
+use Prim.Native.Nat.{ℕ, zero, suc, _+_, _<_}
 use native.Mathlib.Nat.{le-of-suc-le-suc, not-suc-le-zero}
 use native.Mathlib.Omega.{arith}
 use lib.ListN.{length, getD, length-append}
-use Rattle.rules.specs.Operation.{Operation, Alike, constants, negations, sums, differences, products}
+use Rattle.rules.specs.Operation.{Alike, constants, negations, sums, differences, products}
 use Rattle.packed.specs.declared.Instruction.{Instruction}
 use Rattle.packed.specs.declared.Instruction.the-variants.{Constant, Negate, Add, Subtract, Multiply}
 use Rattle.packed.specs.WellFormed.{Smaller}

@@ -1,7 +1,7 @@
 -- The admit job from its parts: the copied domain may be walked, the walked matryoshki picked, and both leave what the job promises. Assumes nothing.
 use mathlib.Core.Path.{_≡_, refl, sym, _∙_, ap, ap₂, subst}
 use mathlib.Core.Bool.{Bool, true, false, _&&_}
-use mathlib.Core.List.{List, [], map}
+use mathlib.Core.List.{List, map}
 use Prim.Native.Nat.{ℕ, _+_, _^_, _≤_}
 use native.Mathlib.Omega.{arith}
 use lib.Dec.{eqb}
@@ -23,7 +23,7 @@ use Rattle.packed.specs.Format.{results}
 use Rattle.packed.specs.Meaning.{formula}
 use Rattle.lists.specs.Over.{over, Pickable}
 use Rattle.formulas.specs.Run.{Walk, run}
-use Rattle.formulas.specs.Job.{Result, Said, answered}
+use Rattle.formulas.specs.Job.{Said, answered}
 use Rattle.walks.specs.Walks.{All, Program, walk-said, end-said, made-by, StandsAfter}
 use Rattle.walks.specs.Lists.{matryoshki, middles-of, strays-of, static-margins-of, nothing, AdmitWalked}
 use Rattle.walks.specs.declared.Walked.{Walked}

@@ -1,7 +1,7 @@
 -- The ball job from its parts: the copied readings may be walked, the walked balls picked, and both leave what the job promises. Assumes nothing.
 use mathlib.Core.Path.{_≡_, refl, sym, _∙_, ap, ap₂, subst}
 use mathlib.Core.Bool.{Bool, true, false, _&&_}
-use mathlib.Core.List.{List, [], map}
+use mathlib.Core.List.{List, map}
 use Prim.Native.Nat.{ℕ, _+_, _^_, _≤_}
 use native.Mathlib.Omega.{arith}
 use lib.Dec.{eqb}
@@ -23,7 +23,7 @@ use Rattle.packed.specs.Format.{results}
 use Rattle.packed.specs.Meaning.{formula}
 use Rattle.lists.specs.Over.{over, Pickable}
 use Rattle.formulas.specs.Run.{Walk, run}
-use Rattle.formulas.specs.Job.{Result, Said, answered, refuses, bad-readings, no-room}
+use Rattle.formulas.specs.Job.{Said, answered}
 use Rattle.walks.specs.Walks.{All, Program, walk-said, end-said, made-by, StandsAfter}
 use Rattle.walks.specs.Lists.{balls, centres-of, margins-of, BallWalked}
 use Rattle.walks.specs.declared.Walked.{Walked}
@@ -32,7 +32,7 @@ use Rattle.walks.proofs.Parts.{balls-centres, balls-margins, balls-long}
 use Rattle.readings.specs.Readings.{all-balls}
 use Rattle.jobs.specs.declared.Reply.{Reply}
 use Rattle.jobs.specs.declared.Reply.the-variants.{Done, NotAFormula, Readings, NoRoom, OutOfReach}
-use Rattle.jobs.specs.Jobs.{reply-said, has-room, if-fit, ball-tested, ball-room, ball-job, BallKept}
+use Rattle.jobs.specs.Jobs.{reply-said, if-fit, ball-tested, ball-room, ball-job, BallKept}
 use Rattle.jobs.proofs.Formed.{Formed}
 use Rattle.jobs.proofs.Ends.{Left, run-longer, the-job, left-unread, left-misread, left-cramped, left-stopped, left-done}
 use Rattle.jobs.proofs.Lent.{over-front, over-long}

@@ -2,16 +2,16 @@
 use mathlib.Core.Path.{_≡_, refl, sym, _∙_, ap, ap₂, subst}
 use mathlib.Core.Bool.{Bool, true, false}
 use mathlib.Core.List.{List, [], _∷_, _++_, map}
-use Prim.Native.Nat.{ℕ, suc, _+_, _-_, _≤_}
+use Prim.Native.Nat.{ℕ, _+_, _-_, _≤_}
 use native.Mathlib.Omega.{arith}
 use lib.ListN.{length, getD, length-map}
 use Rattle.rules.specs.Operation.{Operation}
 use Rattle.rules.specs.Answer.{Answer, value, refused}
 use Rattle.packed.specs.declared.Header.{Header}
 use Rattle.packed.specs.declared.Instruction.{Instruction}
-use Rattle.packed.specs.Meaning.{Formula, formula}
+use Rattle.packed.specs.Meaning.{formula}
 use Rattle.formulas.specs.Run.{Walk, finished, stopped, with-values, onward, run}
-use Rattle.formulas.specs.Job.{Result, refused-first, Said, answered, refuses, no-room, ended, if-room, with-readings, job, work-of, outputs-of, said}
+use Rattle.formulas.specs.Job.{Result, Said, answered, refuses, no-room, ended, if-room, with-readings, job, work-of, outputs-of, said}
 use Rattle.formulas.proofs.Relations.{one-longer}
 use Rattle.formulas.proofs.Lengths.{run-long}
 use Rattle.walks.specs.Walks.{end-said, made-by}

@@ -13,7 +13,7 @@ use Rattle.packed.specs.Format.{InLimits, program, results}
 use Rattle.packed.specs.Meaning.{Formula, formula, checked}
 use Rattle.packed.specs.WellFormed.{Each, Smaller}
 use Rattle.packed.proofs.WellFormed.{accepted-well-formed}
-use Rattle.formulas.proofs.Accepted.{Parts, accepted-parts, checked-headed}
+use Rattle.formulas.proofs.Accepted.{accepted-parts, checked-headed}
 
 pub record Formed (s : List ℕ) (h : Header) : Type 0 where
   pub meant : Formula

@@ -1,7 +1,7 @@
 -- The plain job from its parts: the copied readings may be walked, the walked values picked, and both leave what the job promises. Assumes nothing.
 use mathlib.Core.Path.{_≡_, refl, sym, _∙_, ap, subst}
 use mathlib.Core.Bool.{Bool, true, false}
-use mathlib.Core.List.{List, [], map}
+use mathlib.Core.List.{List, map}
 use Prim.Native.Nat.{ℕ, _+_, _^_, _≤_}
 use native.Mathlib.Omega.{arith}
 use lib.IntN.{ℤ, pos}
@@ -21,7 +21,7 @@ use Rattle.packed.specs.Format.{results}
 use Rattle.packed.specs.Meaning.{formula}
 use Rattle.lists.specs.Over.{over, Pickable}
 use Rattle.formulas.specs.Run.{Walk, run}
-use Rattle.formulas.specs.Job.{Result, Said, answered, refuses, bad-readings, no-room}
+use Rattle.formulas.specs.Job.{Said, answered}
 use Rattle.walks.specs.Walks.{All, Program, walk-said, end-said, made-by, StandsAfter, PlainWalked}
 use Rattle.walks.specs.declared.Walked.{Walked}
 use Rattle.walks.specs.declared.Walked.the-variants.{Finished, Stopped}

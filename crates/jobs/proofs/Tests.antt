@@ -1,14 +1,12 @@
 -- What passed tests give, the place of the outputs, and readings that fit, once for the three kinds. Assumes nothing.
-use mathlib.Core.Path.{_≡_, refl, sym, _∙_, ap, subst}
-use mathlib.Core.Bool.{Bool, true, false, _&&_}
+use mathlib.Core.Path.{_≡_, sym, subst}
+use mathlib.Core.Bool.{Bool, true, _&&_}
 use mathlib.Core.List.{List, [], _∷_, map}
 use Prim.Native.Nat.{ℕ, _+_, _^_, _≤_}
 use native.Mathlib.Omega.{arith}
 use borrow.Author.Tests.{leb-true, eqb-true}
 use lib.Dec.{eqb, leb}
-use lib.IntN.{ℤ, pos, natAbs}
-use lib.ListN.{length}
-use lib.Signed.{nonNeg}
+use lib.IntN.{ℤ, natAbs}
 use Rattle.rules.specs.Numbers.{M}
 use Rattle.rules.specs.Values.{Allowed, IsBall, IsMatryoshka}
 use Rattle.rules.specs.Answer.{value}

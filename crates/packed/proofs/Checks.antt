@@ -1,7 +1,7 @@
 -- What the check answers, part after part, with everything but the header forgotten. Assumes nothing.
 use mathlib.Core.Path.{_≡_, refl, _∙_, ap}
 use mathlib.Core.Bool.{Bool, true, false, cond}
-use mathlib.Core.List.{List, _∷_}
+use mathlib.Core.List.{List}
 use Prim.Native.Nat.{ℕ, _+_}
 use Rattle.rules.specs.Answer.{Answer, value, refused}
 use Rattle.bits.specs.Bits.{bits}
@@ -10,7 +10,7 @@ use Rattle.packed.specs.declared.Header.{Header}
 use Rattle.packed.specs.declared.Instruction.{Instruction}
 use Rattle.packed.specs.Items.{Form, done, read, _>>=_}
 use Rattle.packed.specs.Format.{header, program, results, is-padding}
-use Rattle.packed.specs.Meaning.{Formula, body, whole, if-padded, formula, checked}
+use Rattle.packed.specs.Meaning.{Formula, body, if-padded, formula, checked}
 use Rattle.packed.specs.Answers.{place, body-checked}
 use Rattle.packed.proofs.InTurn.{read-bind}
 

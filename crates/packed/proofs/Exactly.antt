@@ -1,22 +1,22 @@
 -- Each refusal of the check is given exactly when document 01's table says. Assumes nothing.
 use mathlib.Core.Path.{_≡_, refl, sym, _∙_, ap, subst}
-use mathlib.Core.Bool.{Bool, true, false, cond, _&&_, not}
+use mathlib.Core.Bool.{Bool, true, false, _&&_, not}
 use mathlib.Core.List.{List}
 use mathlib.Core.Logic.{_⊎_, inl, inr}
 use Prim.Native.Nat.{ℕ, _^_, _≤_, _<_}
 use native.Mathlib.Omega.{arith}
 use lib.Dec.{leb, ltb, eqb}
-use borrow.Author.Tests.{leb-true, leb-false, ltb-true, ltb-false, eqb-true, le-leb, lt-leb, lt-ltb, le-ltb, eq-eqb}
+use borrow.Author.Tests.{leb-true, leb-false, ltb-false, eqb-true, lt-leb, le-ltb, eq-eqb}
 use lib.ListN.{length, take, drop}
 use Rattle.rules.specs.Answer.{Answer, value, refused}
 use Rattle.bits.specs.Bits.{bits, number}
-use Rattle.bits.specs.Reader.{Read, then, require, field}
+use Rattle.bits.specs.Reader.{Read, then}
 use Rattle.bits.proofs.Take.{field-got, field-ended}
 use Rattle.packed.specs.Refusals.{refusal-number}
 use Rattle.packed.specs.Items.{Kind, version, scale, inputs, instructions, outputs, code, constant, operand, width, permitted, complaint, from-below, tested-field, entry, Form, done, ask, read}
 use Rattle.packed.specs.Format.{is-padding}
-use Rattle.packed.specs.Meaning.{Formula, whole, if-padded, formula, checked}
-use Rattle.packed.specs.Exactly.{Comes, here, later, EndsInside, Wrong, HoldsWrong, Meets, BadlyPadded, Given, one, two, three, four, five, six, seven, eight}
+use Rattle.packed.specs.Meaning.{Formula, whole, formula, checked}
+use Rattle.packed.specs.Exactly.{Comes, here, later, EndsInside, Wrong, HoldsWrong, BadlyPadded, Given, one, two, three, four, five, six, seven, eight}
 
 -- ---- a number is wrong exactly where it is not permitted
 

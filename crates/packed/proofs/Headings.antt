@@ -1,10 +1,9 @@
 -- What the header answers: the first field that is refused, or all five. Assumes nothing.
-use mathlib.Core.Path.{_≡_, refl}
+use mathlib.Core.Path.{_≡_}
 use mathlib.Core.List.{List}
 use Prim.Native.Nat.{ℕ}
-use Rattle.rules.specs.Answer.{Answer, value, refused}
-use Rattle.bits.specs.Reader.{Read, then}
-use Rattle.packed.specs.declared.Header.{Header}
+use Rattle.rules.specs.Answer.{value, refused}
+use Rattle.bits.specs.Reader.{Read}
 use Rattle.packed.specs.Items.{version, scale, inputs, instructions, outputs, entry, read}
 use Rattle.packed.specs.Format.{header}
 

@@ -1,10 +1,10 @@
 -- What reading an instruction answers, by its code and its fields. Assumes nothing.
-use mathlib.Core.Path.{_≡_, refl, sym, _∙_, ap}
-use mathlib.Core.Bool.{Bool, true, false, cond, not}
+use mathlib.Core.Path.{_≡_, refl, _∙_, ap}
+use mathlib.Core.Bool.{Bool, true, false, cond}
 use mathlib.Core.List.{List}
 use Prim.Native.Nat.{ℕ, zero, suc, _+_, _^_, _≤_, _<_}
 use native.Mathlib.Omega.{arith}
-use lib.Dec.{eqb, ltb}
+use lib.Dec.{ltb}
 use borrow.Author.Tests.{eq-eqb, ne-eqb, lt-ltb, le-ltb, ltb-true, ltb-false}
 use lib.IntN.{ℤ, pos, natAbs, _-ℤ_}
 use Rattle.whole.proofs.Machine.{back, back-is}
@@ -12,8 +12,7 @@ use Rattle.whole.proofs.Size.{size-sub}
 use Rattle.bits.specs.declared.Cursor.{Cursor}
 use Rattle.rules.specs.Answer.{Answer, value, refused}
 use Rattle.bits.specs.Reader.{Read, then, field}
-use Rattle.packed.specs.declared.Instruction.{Instruction}
-use Rattle.packed.specs.declared.Instruction.the-variants.{Constant, Negate, Add, Subtract, Multiply}
+use Rattle.packed.specs.declared.Instruction.the-variants.{Constant, Negate}
 use Rattle.packed.specs.Items.{operand, code, tested-field, entry, read}
 use Rattle.packed.specs.Format.{twos-complement, two-operands, by-code, instruction}
 use Rattle.packed.specs.Answers.{Pair, pair, combined, InstructionPast}

@@ -1,12 +1,12 @@
 -- An instruction that was read, as the numbers at fixed places of its bits. Assumes nothing.
-use mathlib.Core.Path.{_≡_, refl, sym, _∙_, ap, ap₂, subst, subst₂}
-use mathlib.Core.Bool.{Bool, true, false, not}
-use mathlib.Core.List.{List, []}
-use Prim.Native.Nat.{ℕ, zero, suc, _+_, _-_, _≤_}
+use mathlib.Core.Path.{_≡_, sym, _∙_, ap, ap₂, subst, subst₂}
+use mathlib.Core.Bool.{Bool, true, false}
+use mathlib.Core.List.{List}
+use Prim.Native.Nat.{ℕ, _-_, _≤_}
 use native.Mathlib.Omega.{arith}
 use lib.ListN.{length, take, drop, length-drop}
 use lib.Seq.{drop-drop}
-use Rattle.rules.specs.Answer.{Answer, value, refused}
+use Rattle.rules.specs.Answer.{Answer, value}
 use Rattle.bits.specs.Bits.{number}
 use Rattle.bits.specs.Reader.{Read, then, require, field}
 use Rattle.bits.proofs.Take.{field-got, field-whole}
@@ -14,10 +14,10 @@ use Rattle.packed.specs.declared.Instruction.{Instruction}
 use Rattle.packed.specs.declared.Instruction.the-variants.{Constant, Negate}
 use Rattle.packed.specs.Refusals.{refusal-number}
 use Rattle.packed.specs.Items.{Kind, code, constant, operand, width, permitted, complaint, tested-field, entry, read}
-use Rattle.packed.specs.Format.{twos-complement, two-operands, by-code, instruction}
+use Rattle.packed.specs.Format.{twos-complement, by-code, instruction}
 use Rattle.packed.specs.Answers.{combined}
 use Rattle.packed.proofs.Instructions.{by-code-two}
-use Rattle.packed.proofs.WellFormed.{Before, first-of, no-value, same-value}
+use Rattle.packed.proofs.WellFormed.{first-of, no-value, same-value}
 
 -- the field of w bits that starts o bits further on
 abbrev at-place : ℕ → ℕ → List ℕ → ℕ

@@ -1,30 +1,28 @@
 -- An accepted formula is well formed: every operand names a smaller value, every output a value, every constant is allowed. Assumes nothing.
 use mathlib.Core.Path.{_≡_, refl, sym, _∙_, ap, subst}
 use mathlib.Core.Bool.{Bool, true, false, cond, _&&_, not}
-use mathlib.Core.List.{List, [], _∷_}
+use mathlib.Core.List.{List}
 use Prim.Native.Nat.{ℕ, zero, suc, _+_, _^_, _≤_, _<_}
 use native.Mathlib.Omega.{arith}
 use lib.Dec.{leb, ltb, eqb}
 use borrow.Author.Tests.{leb-true, ltb-true, ltb-false, eqb-false, not-true}
-use lib.IntN.{ℤ, pos, negsuc, natAbs, _-ℤ_}
-use lib.ListN.{length, take}
+use lib.ListN.{length}
 use Rattle.rules.specs.Answer.{Answer, value, refused}
 use Rattle.rules.specs.Numbers.{M}
 use Rattle.rules.specs.Values.{Allowed}
-use Rattle.bits.specs.Bits.{bits, number}
+use Rattle.bits.specs.Bits.{bits}
 use Rattle.bits.specs.Reader.{Read, then, require, field}
 use Rattle.bits.proofs.Digits.{AreBits, bits-are}
 use Rattle.bits.proofs.Take.{field-bits}
 use Rattle.whole.proofs.Size.{size-gap}
 use Rattle.packed.specs.declared.Header.{Header}
 use Rattle.packed.specs.declared.Instruction.{Instruction}
-use Rattle.packed.specs.declared.Instruction.the-variants.{Constant, Negate, Add, Subtract, Multiply}
+use Rattle.packed.specs.declared.Instruction.the-variants.{Add, Subtract, Multiply}
 use Rattle.packed.specs.Refusals.{refusal-number}
-use Rattle.packed.specs.Items.{Kind, version, scale, inputs, instructions, outputs, code, constant, operand, width, permitted, complaint, from-below, tested-field, entry, Form, done, ask, item, read, _>>=_}
-use Rattle.packed.specs.Format.{header, InLimits, twos-complement, two-operands, by-code, instruction, several, program, results, is-padding}
+use Rattle.packed.specs.Items.{Kind, scale, inputs, instructions, outputs, code, width, permitted, complaint, from-below, tested-field, entry, Form, done, ask, read, _>>=_}
+use Rattle.packed.specs.Format.{header, InLimits, twos-complement, two-operands, by-code, instruction, several, is-padding}
 use Rattle.packed.specs.Meaning.{Formula, body, whole, if-padded, formula}
 use Rattle.packed.specs.WellFormed.{Smaller, Each, none, one, WellFormed}
-use Rattle.packed.proofs.InTurn.{read-bind}
 use Rattle.packed.proofs.Instructions.{twos-complement-low, twos-complement-high}
 
 pub no-value : {A : Type 0} {a : A} {n : ℕ} → refused n ≡ value a → ⊥

@@ -5,10 +5,10 @@ use mathlib.Core.List.{List}
 use mathlib.Core.Logic.{_⊎_}
 use Prim.Native.Nat.{ℕ, _^_, _≤_, _<_}
 use lib.ListN.{length, take}
-use Rattle.rules.specs.Answer.{Answer, value}
+use Rattle.rules.specs.Answer.{value}
 use Rattle.bits.specs.Bits.{bits, number}
 use Rattle.bits.specs.Reader.{Read}
-use Rattle.packed.specs.Items.{Kind, version, scale, inputs, instructions, outputs, code, constant, operand, width, Form, done, ask, entry, read}
+use Rattle.packed.specs.Items.{Kind, version, scale, inputs, instructions, outputs, code, constant, operand, width, Form, ask, entry, read}
 use Rattle.packed.specs.Format.{is-padding}
 use Rattle.packed.specs.Meaning.{Formula, whole}
 

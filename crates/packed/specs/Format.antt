@@ -1,7 +1,7 @@
 -- Document 01, "The packed formula": its header, its instructions, its outputs, its padding.
 use mathlib.Core.Bool.{Bool, cond, _&&_}
 use mathlib.Core.List.{List, [], _∷_}
-use Prim.Native.Nat.{ℕ, zero, suc, _+_, _^_, _≤_}
+use Prim.Native.Nat.{ℕ, zero, suc, _^_, _≤_}
 use lib.Dec.{ltb, eqb}
 use lib.IntN.{ℤ, pos, _-ℤ_}
 use lib.ListN.{length}
@@ -9,7 +9,7 @@ use Rattle.bits.specs.Bits.{number}
 use Rattle.packed.specs.declared.Header.{Header}
 use Rattle.packed.specs.declared.Instruction.{Instruction}
 use Rattle.packed.specs.declared.Instruction.the-variants.{Constant, Negate, Add, Subtract, Multiply}
-use Rattle.packed.specs.Items.{Kind, version, scale, inputs, instructions, outputs, code, constant, operand, Form, done, item, _>>=_, _>>_}
+use Rattle.packed.specs.Items.{version, scale, inputs, instructions, outputs, code, constant, operand, Form, done, item, _>>=_, _>>_}
 
 -- "Header, 32 bits: version .., scale .., inputs m .., instructions l .., outputs n"
 unfoldable pub header : Form Header

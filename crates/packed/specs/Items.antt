@@ -1,11 +1,10 @@
 -- Document 01, "The packed formula": the kinds of fields, and how a file is read, "in file order, field by field: for each field first 1, then
 -- its own test".
 use mathlib.Core.Bool.{Bool, _&&_, not}
-use mathlib.Core.List.{List}
 use Prim.Native.Nat.{ℕ, _^_}
 use lib.Dec.{leb, ltb, eqb}
-use Rattle.rules.specs.Answer.{Answer, value}
-use Rattle.bits.specs.Reader.{Reader, Read, then, require, field}
+use Rattle.rules.specs.Answer.{value}
+use Rattle.bits.specs.Reader.{Reader, then, require, field}
 use Rattle.packed.specs.declared.Refusal.{Refusal}
 use Rattle.packed.specs.declared.Refusal.the-variants as refusal
 use Rattle.packed.specs.Refusals.{refusal-number}

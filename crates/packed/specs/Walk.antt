@@ -2,7 +2,7 @@
 use mathlib.Core.Path.{_≡_}
 use mathlib.Core.List.{List}
 use Prim.Native.Nat.{ℕ, _+_, _≤_}
-use Rattle.rules.specs.Answer.{Answer, value}
+use Rattle.rules.specs.Answer.{value}
 use Rattle.bits.specs.declared.Cursor.{Cursor}
 use Rattle.bits.specs.Reader.{Read}
 use Rattle.bits.specs.Fields.{before}

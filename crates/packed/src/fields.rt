@@ -1,6 +1,6 @@
 // A field with its own test.
 ghost use mathlib.Core.Path.{_≡_};
-ghost use Prim.Native.Nat.{_+_, _^_, _≤_, _<_};
+ghost use Prim.Native.Nat.{_^_, _≤_, _<_};
 ghost use Rattle.bits.specs.Fields.{before};
 ghost use Rattle.packed.specs.Items.{from-below, tested-field};
 ghost use Rattle.packed.specs.Answers.{tested-answer, Passes};

@@ -1,10 +1,10 @@
 // An instruction with the tests of its fields; it makes value `below`.
 ghost use mathlib.Core.Path.{_≡_};
-ghost use Prim.Native.Nat.{_+_, _^_, _≤_, _<_};
+ghost use Prim.Native.Nat.{_^_, _≤_, _<_};
 ghost use Rattle.bits.specs.Fields.{before};
 ghost use Rattle.packed.specs.Items.{read};
 ghost use Rattle.packed.specs.Format.{twos-complement, two-operands, by-code, instruction};
-ghost use Rattle.packed.specs.Answers.{Pair, pair, combined, operands-answer, instruction-answer, OperandsPast, InstructionPast};
+ghost use Rattle.packed.specs.Answers.{pair, combined, operands-answer, instruction-answer, OperandsPast, InstructionPast};
 use crate::Instruction;
 use crate::InstructionRead;
 use crate::OperandsRead;

@@ -3,16 +3,13 @@
 use mathlib.Core.Path.{_≡_, refl, sym, ap}
 use Prim.Native.Nat.{ℕ}
 use native.Mathlib.Omega.{arith}
-use lib.IntN.{ℤ}
-use Rattle.rules.specs.declared.Ball.{Ball}
-use Rattle.rules.specs.declared.Matryoshka.{Matryoshka}
 use Rattle.rules.specs.declared.PlainStep.{PlainStep}
 use Rattle.rules.specs.declared.PlainStep.the-variants as plain
 use Rattle.rules.specs.declared.BallStep.{BallStep}
 use Rattle.rules.specs.declared.BallStep.the-variants as ball
 use Rattle.rules.specs.declared.MatryoshkaStep.{MatryoshkaStep}
 use Rattle.rules.specs.declared.MatryoshkaStep.the-variants as matryoshka
-use Rattle.rules.specs.Answer.{Answer, value, refused, plain-answer, ball-answer, matryoshka-answer}
+use Rattle.rules.specs.Answer.{value, refused, plain-answer, ball-answer, matryoshka-answer}
 
 never : {A : Type 0} {a : A} {n : ℕ} → value a ≡ refused n → ⊥
 never e = let z : _≡_ {A = ℕ} 0 1 = cc in omega arith

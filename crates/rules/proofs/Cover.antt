@@ -1,24 +1,24 @@
 -- Each matryoshka rule covers: if the operands cover balls, the result covers the ball rule's result; where it is accepted the ball rule is
 -- accepted too, and so is the plain rule on the centres, whose result is the ball's centre. Assumes nothing.
-use mathlib.Core.Path.{_≡_, refl, sym, _∙_, ap, subst}
+use mathlib.Core.Path.{_≡_, refl, _∙_, ap, subst}
 use mathlib.Core.List.{[], _∷_}
 use Prim.Native.Nat.{ℕ, _+_, _*_, _≤_, zero-le}
 use native.Mathlib.Nat.{le-refl, le-trans, le-of-eq, add-le-add, mul-le-mul}
 use native.Mathlib.Omega.{arith}
-use lib.IntN.{ℤ, pos, negℤ, natAbs, _+ℤ_, _-ℤ_, _*ℤ_}
+use lib.IntN.{ℤ, pos, natAbs, _+ℤ_, _-ℤ_, _*ℤ_}
 use Rattle.rules.specs.declared.Ball.{Ball}
 use Rattle.rules.specs.declared.Matryoshka.{Matryoshka}
 use Rattle.rules.specs.Numbers.{M, Q, h, Round, Up}
 use Rattle.rules.specs.Values.{Covers, plain-reach, ball-reach, matryoshka-reach}
 use Rattle.rules.specs.Operation.{Operation, each, Alike, constants, negations, sums, differences, products}
-use Rattle.rules.specs.Answer.{Answer, value, within-reach}
+use Rattle.rules.specs.Answer.{value, within-reach}
 use Rattle.rules.specs.Plain.{plain-result, plain-rule}
 use Rattle.rules.specs.Balls.{ball-result, ball-rule}
 use Rattle.rules.specs.Matryoshki.{matryoshka-result, matryoshka-rule}
 use Rattle.rules.proofs.Reach.{reach-accepts, reach-accepted}
 use Rattle.rules.proofs.Rounding.{round-near, round-loss, up-mono}
 use Rattle.whole.proofs.Ring.{ring, lit, neg, _⊕_, _⊖_, _⊗_, x₀, x₁, x₂, x₃}
-use Rattle.whole.proofs.Size.{Within, none, more, size-by, bounded, size-neg, size-add, size-sub, size-near}
+use Rattle.whole.proofs.Size.{none, more, size-by, bounded, size-neg, size-add, size-sub, size-near}
 
 -- by how much a centre strays from a middle
 abbrev off : Ball → Matryoshka → ℤ

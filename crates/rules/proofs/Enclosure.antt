@@ -1,9 +1,9 @@
 -- Each ball rule encloses: if the operands contain the fractions, the result contains the exact result, and so does the accepted ball.
 -- Assumes nothing.
-use mathlib.Core.Path.{_≡_, refl, sym, _∙_, ap, subst}
+use mathlib.Core.Path.{_≡_, refl, ap, subst}
 use mathlib.Core.List.{List, [], _∷_}
-use Prim.Native.Nat.{ℕ, _+_, _*_, _≤_, _<_, zero-le}
-use native.Mathlib.Nat.{le-refl, le-trans, le-of-eq, mul-le-mul-right, mul-le-mul-left, mul-le-mul, add-mul, le-of-mul-le-mul-right}
+use Prim.Native.Nat.{ℕ, _+_, _*_, _≤_, zero-le}
+use native.Mathlib.Nat.{le-refl, le-trans, le-of-eq, mul-le-mul-right, le-of-mul-le-mul-right}
 use native.Mathlib.Omega.{arith}
 use lib.IntN.{ℤ, pos, negℤ, natAbs, _+ℤ_, _-ℤ_, _*ℤ_}
 use lib.Pow.{pow-pos}
@@ -11,8 +11,8 @@ use Rattle.rules.specs.declared.Ball.{Ball}
 use Rattle.rules.specs.Numbers.{Q, Round, Up}
 use Rattle.rules.specs.Values.{Fraction, Contains, ball-reach}
 use Rattle.rules.specs.Operation.{Operation, Alike, constants, negations, sums, differences, products}
-use Rattle.rules.specs.Answer.{Answer, value}
-use Rattle.rules.specs.Balls.{ball, ball-product, ball-result, ball-rule}
+use Rattle.rules.specs.Answer.{value}
+use Rattle.rules.specs.Balls.{ball-result, ball-rule}
 use Rattle.rules.specs.Exact.{Exact, over, across}
 use Rattle.rules.proofs.Reach.{reach-accepted}
 use Rattle.rules.proofs.Rounding.{up-covers}

@@ -1,9 +1,8 @@
 -- Document 01's marked figures follow from the written rules: one table, one claim. Assumes nothing.
 use mathlib.Core.Path.{_≡_, refl}
-use mathlib.Core.List.{List, map}
-use lib.IntN.{ℤ}
+use mathlib.Core.List.{map}
 use Rattle.rules.specs.Numbers.{h, Round, Up}
-use Rattle.rules.specs.Answer.{Answer, within-reach}
+use Rattle.rules.specs.Answer.{within-reach}
 use Rattle.rules.specs.Figures.{Figure, figures, answered}
 
 pub figures-hold : map (λ (f : Figure). answered (f .step)) figures ≡ map (λ (f : Figure). f .must) figures

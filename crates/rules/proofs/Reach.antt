@@ -1,5 +1,5 @@
 -- A step's answer is its result where that is within reach, and refusal 11 where it is not. So what is accepted is legal. Assumes nothing.
-use mathlib.Core.Path.{_≡_, refl, sym, ap}
+use mathlib.Core.Path.{_≡_, refl, ap}
 use mathlib.Core.Bool.{Bool, true, false, cond}
 use Prim.Native.Nat.{ℕ, _≤_, _<_}
 use native.Mathlib.Omega.{arith}
@@ -11,7 +11,7 @@ use Rattle.rules.specs.declared.Matryoshka.{Matryoshka}
 use Rattle.rules.specs.Numbers.{M}
 use Rattle.rules.specs.Values.{Allowed, IsBall, IsMatryoshka, plain-reach, ball-reach, matryoshka-reach}
 use Rattle.rules.specs.Operation.{Operation}
-use Rattle.rules.specs.Answer.{Answer, value, refused, within-reach, out-of-reach}
+use Rattle.rules.specs.Answer.{value, refused, within-reach, out-of-reach}
 use Rattle.rules.specs.Plain.{plain-rule, plain-result}
 use Rattle.rules.specs.Balls.{ball-rule, ball-result}
 use Rattle.rules.specs.Matryoshki.{matryoshka-rule, matryoshka-result}

@@ -2,15 +2,15 @@
 -- Up is at least p/Q, and no whole number between is. Assumes nothing.
 use mathlib.Core.Path.{_≡_, refl, sym, _∙_, ap, ap₂, subst}
 use mathlib.Core.List.{[], _∷_}
-use Prim.Native.Nat.{ℕ, zero, suc, _+_, _-_, _*_, _/_, _^_, _≤_, _<_}
-use native.Mathlib.Nat.{le-trans, le-of-eq, le-div-iff-mul-le, lt-div-mul-add, pow-suc}
+use Prim.Native.Nat.{ℕ, zero, suc, _+_, _-_, _*_, _≤_, _<_}
+use native.Mathlib.Nat.{le-div-iff-mul-le, lt-div-mul-add, pow-suc}
 use native.Mathlib.Omega.{arith}
 use lib.IntN.{ℤ, pos, natAbs, _+ℤ_, _-ℤ_, _*ℤ_}
 use lib.Pow.{pow-pos, shr-mono}
 use lib.Signed.{shrZ}
-use Rattle.rules.specs.Numbers.{Q, h, floor, Round, Up}
+use Rattle.rules.specs.Numbers.{Q, h, Round, Up}
 use Rattle.whole.proofs.Floor.{rest, rest-lt, floor-split, floor-shift}
-use Rattle.whole.proofs.Ring.{ring, neg, _⊕_, _⊖_, _⊗_, x₀, x₁, x₂, x₃, x₄, x₅}
+use Rattle.whole.proofs.Ring.{ring, _⊕_, _⊖_, _⊗_, x₀, x₁, x₂, x₃, x₄}
 use Rattle.whole.proofs.Size.{size-add, size-mul, size-gap}
 
 -- h is half of Q, rounded down

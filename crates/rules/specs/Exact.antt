@@ -1,6 +1,6 @@
 -- Document 01: "Exact arithmetic takes the same instructions on fractions, a constant c being c/Q, with no rounding and no limit."
 use mathlib.Core.Path.{_≡_}
-use Prim.Native.Nat.{ℕ, _*_, _≤_}
+use Prim.Native.Nat.{ℕ, _*_}
 use native.Mathlib.Nat.{mul-pos}
 use lib.IntN.{ℤ, pos, negℤ, _+ℤ_, _-ℤ_, _*ℤ_}
 use lib.Pow.{pow-pos}

@@ -1,14 +1,14 @@
 -- Sums, differences and negations of centres: they fit 64 bits, and the machine holds what the rule says. Assumes nothing.
 use mathlib.Core.Path.{_≡_, _∙_}
 use mathlib.Core.List.{[], _∷_}
-use Prim.Native.Nat.{ℕ, _+_, _≤_}
+use Prim.Native.Nat.{_+_, _≤_}
 use native.Mathlib.Nat.{le-trans, le-add-right}
 use lib.IntN.{ℤ, pos, negℤ, natAbs, +ℤ-idl}
 use Rattle.rules.specs.Numbers.{M}
 use Rattle.rules.specs.declared.Ball.{Ball}
 use Rattle.rules.specs.declared.Matryoshka.{Matryoshka}
 use Rattle.rules.specs.Values.{IsBall, IsMatryoshka}
-use Rattle.whole.proofs.Ring.{Expr, lit, neg, _⊕_, _⊖_, x₀}
+use Rattle.whole.proofs.Ring.{Expr, lit, _⊖_, x₀}
 use Rattle.whole.proofs.Size.{Within, more, none}
 use Rattle.whole.proofs.Machine.{held, held-is}
 

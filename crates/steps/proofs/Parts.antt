@@ -1,10 +1,10 @@
 -- The parts of a unit that rounding adds, as the rules name them, and their bounds at every scale. Assumes nothing.
-use mathlib.Core.Path.{_≡_, refl, sym, _∙_, ap}
-use Prim.Native.Nat.{ℕ, zero, suc, _+_, _-_, _*_, _/_, _^_, _≤_, _<_}
-use native.Mathlib.Nat.{mul-le-mul, add-le-add, le-trans, le-of-eq, div-one}
+use mathlib.Core.Path.{_≡_, refl}
+use Prim.Native.Nat.{ℕ, zero, suc, _-_, _/_, _^_, _≤_}
+use native.Mathlib.Nat.{div-one}
 use native.Mathlib.Omega.{arith}
-use lib.Pow.{pow-mono, pow-pos}
-use Rattle.rules.specs.Numbers.{M, Q, h, top-scale}
+use lib.Pow.{pow-mono}
+use Rattle.rules.specs.Numbers.{Q, h, top-scale}
 use Rattle.rules.proofs.Rounding.{h-half}
 
 -- Q is at most 2^30

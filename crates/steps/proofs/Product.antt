@@ -1,6 +1,5 @@
 -- A product of two centres and its rounding on 64 bits: every part fits, and the machine holds what the rules say. Assumes nothing.
-use mathlib.Core.Path.{_≡_, refl, sym, _∙_, ap, ap₂, subst}
-use mathlib.Core.List.{[], _∷_}
+use mathlib.Core.Path.{_≡_, sym, _∙_, ap, ap₂, subst}
 use Prim.Native.Nat.{ℕ, _+_, _*_, _^_, _≤_, _<_}
 use native.Mathlib.Nat.{le-trans, le-mul-of-pos-right}
 use native.Mathlib.Omega.{arith}

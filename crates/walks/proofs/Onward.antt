@@ -1,10 +1,9 @@
 -- How far a walk has come: carrying out what is left from the values made so far gives what the whole gives from the start. One argument for
 -- every kind of values. Assumes nothing.
-use mathlib.Core.Path.{_≡_, refl, sym, _∙_, ap, ap₂, subst, subst₂}
+use mathlib.Core.Path.{_≡_, refl, sym, _∙_, ap, subst, subst₂}
 use mathlib.Core.List.{List, [], _∷_, _++_}
-use Prim.Native.Nat.{ℕ, zero, suc, _+_, _-_, _*_, _≤_, _<_}
+use Prim.Native.Nat.{ℕ, suc, _+_, _-_, _*_, _≤_, _<_}
 use native.Mathlib.Omega.{arith}
-use lib.ListN.{length}
 use Rattle.rules.specs.Operation.{Operation}
 use Rattle.rules.specs.Answer.{Answer, value, refused}
 use Rattle.bits.specs.declared.Cursor.{Cursor}
@@ -13,7 +12,7 @@ use Rattle.bits.specs.Fields.{before}
 use Rattle.packed.specs.declared.Instruction.{Instruction}
 use Rattle.packed.specs.Items.{read}
 use Rattle.packed.specs.Format.{instruction, several}
-use Rattle.packed.specs.WellFormed.{Smaller, Each, none, one}
+use Rattle.packed.specs.WellFormed.{Smaller, Each, one}
 use Rattle.packed.specs.Walk.{Readable, Decodes}
 use Rattle.packed.proofs.WellFormed.{same-value}
 use Rattle.formulas.specs.Run.{Walk, finished, stopped, with-values, onward, run}

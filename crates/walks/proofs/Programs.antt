@@ -1,11 +1,10 @@
 -- The instructions at a cursor: the first of them, and those after it. Assumes nothing.
-use mathlib.Core.Path.{_≡_, refl, sym, _∙_, ap}
+use mathlib.Core.Path.{_≡_, sym, _∙_, ap}
 use mathlib.Core.List.{List, _∷_}
 use Prim.Native.Nat.{ℕ, suc}
-use Rattle.rules.specs.Answer.{Answer, value}
+use Rattle.rules.specs.Answer.{value}
 use Rattle.bits.specs.declared.Cursor.{Cursor}
-use Rattle.bits.specs.Bits.{bits}
-use Rattle.bits.specs.Reader.{Read, then}
+use Rattle.bits.specs.Reader.{Read}
 use Rattle.bits.specs.Fields.{before}
 use Rattle.bits.proofs.Digits.{bits-are, bits-drop}
 use Rattle.packed.specs.declared.Instruction.{Instruction}

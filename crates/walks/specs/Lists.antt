@@ -6,7 +6,7 @@ use lib.IntN.{ℤ, pos}
 use lib.ListN.{take}
 use Rattle.rules.specs.declared.Ball.{Ball}
 use Rattle.rules.specs.declared.Matryoshka.{Matryoshka}
-use Rattle.rules.specs.Answer.{Answer, value}
+use Rattle.rules.specs.Answer.{value}
 use Rattle.rules.specs.Balls.{ball, ball-rule}
 use Rattle.rules.specs.Matryoshki.{matryoshka, matryoshka-rule}
 use Rattle.bits.specs.declared.Cursor.{Cursor}
@@ -16,7 +16,7 @@ use Rattle.packed.specs.declared.Instruction.{Instruction}
 use Rattle.packed.specs.Items.{read}
 use Rattle.packed.specs.Format.{program}
 use Rattle.lists.specs.Over.{over}
-use Rattle.formulas.specs.Run.{Walk, run}
+use Rattle.formulas.specs.Run.{run}
 use Rattle.walks.specs.declared.Walked.{Walked}
 use Rattle.walks.specs.Walks.{walk-said, end-said, made-by, StandsAfter}
 

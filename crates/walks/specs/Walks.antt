@@ -4,7 +4,7 @@ use mathlib.Core.List.{List, [], _∷_}
 use Prim.Native.Nat.{ℕ, _+_, _-_, _*_, _≤_}
 use lib.IntN.{ℤ, pos}
 use lib.ListN.{length, take}
-use Rattle.rules.specs.Answer.{Answer, value, out-of-reach}
+use Rattle.rules.specs.Answer.{value, out-of-reach}
 use Rattle.rules.specs.Plain.{plain-rule}
 use Rattle.bits.specs.declared.Cursor.{Cursor}
 use Rattle.bits.specs.Reader.{Read}

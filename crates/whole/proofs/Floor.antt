@@ -1,14 +1,14 @@
 -- Division by q rounded down, `shrZ z q` in the kit, also at negative z: what is left over, that the two determine z and are determined by
 -- it, and that z moves by n·q when the quotient moves by n. Assumes nothing.
-use mathlib.Core.Path.{_≡_, refl, sym, _∙_, ap, ap₂, subst}
-use mathlib.Core.List.{List, [], _∷_}
-use Prim.Native.Nat.{ℕ, zero, suc, _+_, _-_, _*_, _/_, _%_, _≤_, _<_}
+use mathlib.Core.Path.{_≡_, refl, sym, _∙_, ap, ap₂}
+use mathlib.Core.List.{[], _∷_}
+use Prim.Native.Nat.{ℕ, suc, _+_, _-_, _*_, _/_, _%_, _<_}
 use native.Mathlib.Nat.{div-add-mod', mod-lt}
 use native.Mathlib.Omega.{arith}
 use lib.Arith.{digits-div}
-use lib.IntN.{ℤ, pos, negsuc, negℤ, natAbs, _+ℤ_, _-ℤ_, _*ℤ_}
+use lib.IntN.{ℤ, pos, negsuc, negℤ, _+ℤ_, _*ℤ_}
 use lib.Signed.{shrZ}
-use Rattle.whole.proofs.Ring.{ring, lit, neg, _⊕_, _⊖_, _⊗_, x₀, x₁, x₂, x₃}
+use Rattle.whole.proofs.Ring.{ring, lit, neg, _⊕_, _⊗_, x₀, x₁, x₂, x₃}
 
 -- what z is above the largest multiple of q that is not above it
 abbrev pub rest : ℤ → ℕ → ℕ

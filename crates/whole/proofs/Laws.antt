@@ -1,7 +1,7 @@
 -- The ring laws of ℤ that the kit's `lib.IntN` lacks: distributivity and the product's associativity. Assumes nothing.
-use mathlib.Core.Path.{_≡_, refl, sym, _∙_, ap}
-use Prim.Native.Nat.{ℕ, zero, suc}
-use lib.IntN.{ℤ, pos, negsuc, sucℤ, predℤ, negℤ, _+ℤ_, _-ℤ_, _*ℤ_, sucℤ-+ℤ, predℤ-+ℤ, sucℤ-*ℤ, predℤ-*ℤ, +ℤ-assoc, +ℤ-comm, +ℤ-idl, +ℤ-idr, +ℤ-invl, +ℤ-negℤ-cancel, zero-*ℤ, *ℤ-comm, *ℤ-one, one}
+use mathlib.Core.Path.{_≡_, sym, _∙_, ap}
+use Prim.Native.Nat.{zero, suc}
+use lib.IntN.{ℤ, pos, negsuc, sucℤ, predℤ, negℤ, _+ℤ_, _-ℤ_, _*ℤ_, sucℤ-+ℤ, predℤ-+ℤ, sucℤ-*ℤ, predℤ-*ℤ, +ℤ-assoc, +ℤ-comm, +ℤ-idl, +ℤ-invl, +ℤ-negℤ-cancel, zero-*ℤ, *ℤ-comm, *ℤ-one, one}
 
 swap-right : (a b c : ℤ) → (a +ℤ b) +ℤ c ≡ (a +ℤ c) +ℤ b
 swap-right a b c = +ℤ-assoc a b c ∙ ap (λ (x : ℤ). a +ℤ x) (+ℤ-comm b c) ∙ sym (+ℤ-assoc a c b)

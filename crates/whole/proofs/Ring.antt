@@ -5,7 +5,7 @@ use mathlib.Core.Bool.{Bool, true, false, cond}
 use mathlib.Core.List.{List, [], _∷_}
 use Prim.Native.Nat.{ℕ, zero, suc}
 use lib.Dec.{T, ltb, eqb, eqb→eq}
-use lib.IntN.{ℤ, pos, negsuc, negℤ, _+ℤ_, _-ℤ_, _*ℤ_, +ℤ-assoc, +ℤ-comm, +ℤ-idl, +ℤ-idr, zero-*ℤ, *ℤ-zero, *ℤ-comm}
+use lib.IntN.{ℤ, pos, negsuc, negℤ, _+ℤ_, _*ℤ_, +ℤ-assoc, +ℤ-comm, +ℤ-idl, +ℤ-idr, zero-*ℤ, *ℤ-zero, *ℤ-comm}
 use lib.ListN.{getD}
 use Rattle.whole.proofs.Laws.{add-mulℤ, mul-addℤ, neg-mulℤ, mul-assocℤ, mul-oneℤ, one-mulℤ}
 

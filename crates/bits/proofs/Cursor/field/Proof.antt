@@ -11,14 +11,10 @@ use lib.Seq.{drop-drop}
 use Rattle.rules.specs.Answer.{value}
 use Rattle.whole.proofs.Machine.{one-shifted}
 use Rattle.bits.specs.Bits.{bits, number, window-number}
-use Rattle.bits.specs.Reader.{Read}
 use Rattle.bits.proofs.Gather.{field-gather}
 use Rattle.bits.proofs.Take.{field-got, field-ended, left-long, left-short}
 use Rattle.bits.proofs.Cursor.field.Statement.{statement}
 use Rattle.bits.proofs.Cursor.field.Tie as tie
-use Rattle.bits.proofs.Cursor.field.Reads as reads
-use Rattle.bits.proofs.Cursor.field.Lts as lts
-use Rattle.bits.proofs.window.Reads as window-reads
 
 add-end : tie.Need-add-end
 add-end c = search needs

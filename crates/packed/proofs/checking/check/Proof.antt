@@ -1,5 +1,5 @@
 -- `check` meets its contract. Assumes nothing.
-use mathlib.Core.Path.{_≡_, sym, _∙_}
+use mathlib.Core.Path.{sym, _∙_}
 use borrow.Author.Needs.{needs}
 use Rattle.packed.specs.Answers.{header-answer}
 use Rattle.packed.proofs.FieldIn.{by-case}

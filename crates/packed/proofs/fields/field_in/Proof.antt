@@ -1,7 +1,5 @@
 -- `field_in` meets its contract. Assumes nothing.
-use mathlib.Core.Path.{_≡_, sym}
-use Prim.Native.Nat.{ℕ}
-use native.Mathlib.Omega.{arith}
+use mathlib.Core.Path.{sym}
 use borrow.Author.Needs.{needs}
 use Rattle.bits.specs.Fields.{before, field-answer}
 use Rattle.packed.proofs.FieldIn.{by-case, field-in-ended, field-in-low, field-in-high, field-in-got}

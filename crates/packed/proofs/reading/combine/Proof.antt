@@ -1,6 +1,4 @@
 -- `combine` meets its contract. Assumes nothing.
-use mathlib.Core.Path.{_≡_, sym, refl}
-use mathlib.Core.Bool.{Bool}
 use borrow.Author.Tests.{eq-eqb, ne-eqb}
 use Rattle.packed.proofs.reading.combine.Statement.{statement}
 use Rattle.packed.proofs.reading.combine.Tie as tie

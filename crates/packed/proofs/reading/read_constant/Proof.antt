@@ -1,13 +1,11 @@
 -- `read_constant` meets its contract. Assumes nothing.
-use mathlib.Core.Path.{_≡_, sym, _∙_, ap}
+use mathlib.Core.Path.{sym, _∙_, ap}
 use native.Mathlib.Omega.{arith}
 use borrow.Author.Needs.{needs}
 use lib.IntN.{ℤ}
 use Rattle.rules.specs.Answer.{value}
-use Rattle.bits.specs.Reader.{Read}
 use Rattle.bits.specs.Fields.{before, field-answer}
 use Rattle.packed.specs.declared.Instruction.the-variants.{Constant}
-use Rattle.packed.specs.Format.{twos-complement}
 use Rattle.packed.proofs.FieldIn.{by-case}
 use Rattle.packed.proofs.Instructions.{constant-ended, constant-least, constant-got, twos-complement-back}
 use Rattle.packed.proofs.reading.read_constant.Statement.{statement}

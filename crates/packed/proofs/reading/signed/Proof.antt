@@ -1,11 +1,11 @@
 -- `signed` meets its contract. Assumes nothing.
-use mathlib.Core.Path.{_≡_, sym, _∙_, ap}
+use mathlib.Core.Path.{sym, _∙_}
 use mathlib.Core.List.{[], _∷_}
-use Prim.Native.Nat.{ℕ, _^_, _≤_, _<_}
+use Prim.Native.Nat.{_^_}
 use native.Mathlib.Nat.{le-of-lt}
 use native.Mathlib.Omega.{arith}
 use borrow.Author.Needs.{needs}
-use lib.IntN.{ℤ, pos}
+use lib.IntN.{pos}
 use Rattle.whole.proofs.Ring.{lit, _⊖_, x₀}
 use Rattle.whole.proofs.Size.{Within, more, none}
 use Rattle.whole.proofs.Machine.{back-is, fits, held-is}

@@ -1,5 +1,5 @@
 -- `decode` meets its contract: each field comes out of one window. Assumes nothing.
-use mathlib.Core.Path.{_≡_, sym, _∙_, ap, ap₂}
+use mathlib.Core.Path.{_≡_, sym, _∙_, ap}
 use Prim.Native.Nat.{ℕ, _+_, _-_, _/_, _%_, _^_, _≤_}
 use native.Mathlib.Nat.{le-refl, le-trans, mod-lt}
 use native.Mathlib.Omega.{arith}
@@ -13,17 +13,11 @@ use Rattle.packed.specs.declared.Instruction.{Instruction}
 use Rattle.packed.specs.declared.Instruction.the-variants.{Constant, Negate}
 use Rattle.packed.specs.Format.{twos-complement}
 use Rattle.packed.specs.Answers.{combined}
-use Rattle.packed.specs.Walk.{Decodes}
 use Rattle.packed.proofs.Instructions.{twos-complement-back}
 use Rattle.packed.proofs.Shapes.{instruction-coded, constant-shape, negate-shape, two-shape}
 use Rattle.packed.proofs.Windows.{place-gather}
 use Rattle.packed.proofs.walking.decode.Statement.{statement}
 use Rattle.packed.proofs.walking.decode.Tie as tie
-use Rattle.packed.proofs.walking.decode.Reads as reads
-use Rattle.packed.proofs.walking.decode.Lts as lts
-use Rattle.bits.proofs.window.Reads as window-reads
-use Rattle.packed.proofs.reading.combine.Reads as combine-reads
-use Rattle.packed.proofs.reading.signed.Reads as signed-reads
 
 ap₃ : (f : ℕ → ℕ → ℕ → Instruction) {a b c d e g : ℕ} → a ≡ b → c ≡ d → e ≡ g → f a c e ≡ f b d g
 ap₃ f p q r = cc

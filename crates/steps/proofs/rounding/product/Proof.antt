@@ -1,6 +1,6 @@
 -- `product` meets its contract. Assumes nothing.
-use mathlib.Core.Path.{_≡_, sym, _∙_, ap, subst}
-use Prim.Native.Nat.{ℕ, _*_, _≤_}
+use mathlib.Core.Path.{sym, _∙_, ap, subst}
+use Prim.Native.Nat.{_*_, _≤_}
 use lib.IntN.{ℤ, natAbs}
 use Rattle.rules.specs.Numbers.{M, Round}
 use Rattle.whole.proofs.Ring.{_⊗_, x₀, x₁}

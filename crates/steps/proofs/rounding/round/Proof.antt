@@ -1,13 +1,12 @@
 -- `round` meets its contract: p + h fits 64 bits, and the shift is the floor. Assumes nothing.
-use mathlib.Core.Path.{_≡_, refl, sym, _∙_, ap, subst}
+use mathlib.Core.Path.{_≡_, _∙_, ap}
 use mathlib.Core.List.{[], _∷_}
-use Prim.Native.Nat.{ℕ, _+_, _-_, _*_, _/_, _^_, _≤_, _<_}
-use native.Mathlib.Nat.{le-refl}
+use Prim.Native.Nat.{ℕ, _+_, _-_, _*_, _^_, _≤_}
 use native.Mathlib.Omega.{arith}
 use borrow.Author.Needs.{needs}
-use lib.IntN.{ℤ, pos, natAbs, _+ℤ_}
+use lib.IntN.{ℤ, pos, _+ℤ_}
 use lib.Signed.{shrZ}
-use Rattle.rules.specs.Numbers.{M, Q, h, Round}
+use Rattle.rules.specs.Numbers.{M, h, Round}
 use Rattle.whole.proofs.Ring.{_⊕_, x₀, x₁}
 use Rattle.whole.proofs.Size.{Within, more, none}
 use Rattle.whole.proofs.Machine.{back, held-is, fits, fits-size, worth-fits, back-shr}

@@ -1,7 +1,7 @@
 -- `step` meets its contract: each instruction's step, on the values that its operands name. Assumes nothing.
-use mathlib.Core.Path.{_≡_, sym, _∙_, ap, ap₂}
+use mathlib.Core.Path.{sym, _∙_, ap, ap₂}
 use borrow.Author.Needs.{needs}
-use lib.IntN.{ℤ, pos}
+use lib.IntN.{ℤ}
 use lib.ListN.{take}
 use Rattle.rules.specs.Operation.{constant, negate, add, subtract, multiply}
 use Rattle.packed.specs.declared.Instruction.{Instruction}

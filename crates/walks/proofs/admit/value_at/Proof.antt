@@ -1,12 +1,11 @@
 -- `value_at` meets its contract. Assumes nothing.
 use mathlib.Core.Path.{_≡_, sym, _∙_, ap, subst}
-use Prim.Native.Nat.{ℕ, _≤_, _<_}
+use Prim.Native.Nat.{ℕ, _<_}
 use native.Mathlib.Omega.{arith}
 use borrow.Author.Needs.{needs}
-use lib.IntN.{ℤ, pos, natAbs}
+use lib.IntN.{ℤ, pos}
 use lib.ListN.{length, getD, take}
 use lib.Seq.{getD-take, length-take-le}
-use Rattle.rules.specs.declared.Matryoshka.{Matryoshka}
 use Rattle.rules.specs.Values.{IsMatryoshka}
 use Rattle.rules.specs.Matryoshki.{matryoshka}
 use Rattle.steps.proofs.Linear.{middle-size}

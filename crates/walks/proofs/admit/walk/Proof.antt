@@ -1,19 +1,17 @@
 -- `walk` meets its contract. The loop's invariant: how far the walk has come, what the lists held from there on, and that its matryoshki are matryoshki. Assumes nothing.
-use mathlib.Core.Path.{_≡_, refl, sym, _∙_, ap, subst, subst₂}
+use mathlib.Core.Path.{_≡_, sym, _∙_, ap, subst, subst₂}
 use mathlib.Core.List.{List, [], _∷_, _++_}
-use Prim.Native.Nat.{ℕ, _+_, _*_, _-_, _^_, _≤_, _<_}
+use Prim.Native.Nat.{ℕ, _+_, _-_, _≤_, _<_}
 use native.Mathlib.Omega.{arith}
 use borrow.Author.Needs.{needs}
-use lib.IntN.{ℤ, pos}
+use lib.IntN.{ℤ}
 use lib.ListN.{length, take, set}
 use lib.Seq.{length-take-le}
 use Rattle.rules.specs.declared.Matryoshka.{Matryoshka}
 use Rattle.rules.specs.Values.{IsMatryoshka}
-use Rattle.rules.specs.Answer.{Answer, value, refused, matryoshka-answer}
-use Rattle.rules.specs.Matryoshki.{matryoshka, matryoshka-rule}
+use Rattle.rules.specs.Answer.{matryoshka-answer}
+use Rattle.rules.specs.Matryoshki.{matryoshka-rule}
 use Rattle.rules.proofs.Reach.{matryoshka-legal}
-use Rattle.bits.specs.Reader.{Read}
-use Rattle.packed.specs.declared.Instruction.{Instruction}
 use Rattle.packed.proofs.FieldIn.{by-case}
 use Rattle.packed.proofs.Several.{less}
 use Rattle.lists.specs.Over.{over}
@@ -22,7 +20,7 @@ use Rattle.formulas.specs.Job.{refuses}
 use Rattle.steps.proofs.Linear.{middle-size}
 use Rattle.steps.proofs.Product.{kept}
 use Rattle.walks.specs.Walks.{All}
-use Rattle.walks.specs.Lists.{matryoshki, nothing, middles-of, strays-of, static-margins-of}
+use Rattle.walks.specs.Lists.{matryoshki, nothing}
 use Rattle.walks.proofs.Onward.{Onward, onward-start, onward-readable, onward-smaller, onward-more, onward-stops, onward-ends, onward-stands, onward-whole}
 use Rattle.walks.proofs.Held.{Held, held-start, held-more, front-more, held-over, place-of}
 use Rattle.walks.proofs.Alls.{all-behind}

@@ -1,12 +1,11 @@
 -- `value_at` meets its contract. Assumes nothing.
 use mathlib.Core.Path.{_≡_, sym, _∙_, ap, ap₂, subst}
-use Prim.Native.Nat.{ℕ, _≤_, _<_}
+use Prim.Native.Nat.{_<_}
 use native.Mathlib.Omega.{arith}
 use borrow.Author.Needs.{needs}
-use lib.IntN.{ℤ, pos, natAbs}
+use lib.IntN.{ℤ, pos}
 use lib.ListN.{length, getD, take}
 use lib.Seq.{getD-take, length-take-le}
-use Rattle.rules.specs.declared.Ball.{Ball}
 use Rattle.rules.specs.Values.{IsBall}
 use Rattle.rules.specs.Balls.{ball}
 use Rattle.steps.proofs.Linear.{centre-size}

@@ -1,7 +1,7 @@
 -- `walk` meets its contract. The loop's invariant: how far the walk has come, what the lists held from there on, and that its balls are balls. Assumes nothing.
-use mathlib.Core.Path.{_≡_, refl, sym, _∙_, ap, ap₂, subst, subst₂}
+use mathlib.Core.Path.{_≡_, sym, _∙_, ap, ap₂, subst, subst₂}
 use mathlib.Core.List.{List, [], _∷_, _++_}
-use Prim.Native.Nat.{ℕ, _+_, _*_, _-_, _^_, _≤_, _<_}
+use Prim.Native.Nat.{ℕ, _+_, _-_, _≤_, _<_}
 use native.Mathlib.Omega.{arith}
 use borrow.Author.Needs.{needs}
 use lib.IntN.{ℤ, pos}
@@ -9,11 +9,9 @@ use lib.ListN.{length, take, set}
 use lib.Seq.{length-take-le}
 use Rattle.rules.specs.declared.Ball.{Ball}
 use Rattle.rules.specs.Values.{IsBall}
-use Rattle.rules.specs.Answer.{Answer, value, refused, ball-answer}
+use Rattle.rules.specs.Answer.{ball-answer}
 use Rattle.rules.specs.Balls.{ball, ball-rule}
 use Rattle.rules.proofs.Reach.{ball-legal}
-use Rattle.bits.specs.Reader.{Read}
-use Rattle.packed.specs.declared.Instruction.{Instruction}
 use Rattle.packed.proofs.FieldIn.{by-case}
 use Rattle.packed.proofs.Several.{less}
 use Rattle.lists.specs.Over.{over}

@@ -1,16 +1,14 @@
 -- `walk` meets its contract. The loop's invariant: how far the walk has come, what the list held from there on, and that its values are allowed. Assumes nothing.
-use mathlib.Core.Path.{_≡_, refl, sym, _∙_, ap, subst, subst₂}
+use mathlib.Core.Path.{_≡_, sym, ap, subst, subst₂}
 use mathlib.Core.List.{List, [], _∷_, _++_}
-use Prim.Native.Nat.{ℕ, _+_, _*_, _-_, _^_, _≤_, _<_}
+use Prim.Native.Nat.{ℕ, _+_, _-_, _≤_, _<_}
 use native.Mathlib.Omega.{arith}
 use borrow.Author.Needs.{needs}
 use lib.IntN.{ℤ, pos}
 use lib.ListN.{length, take, set}
-use Rattle.rules.specs.Answer.{Answer, value, refused, plain-answer}
+use Rattle.rules.specs.Answer.{plain-answer}
 use Rattle.rules.specs.Plain.{plain-rule}
 use Rattle.rules.proofs.Reach.{plain-legal}
-use Rattle.bits.specs.Reader.{Read}
-use Rattle.packed.specs.declared.Instruction.{Instruction}
 use Rattle.packed.proofs.FieldIn.{by-case}
 use Rattle.packed.proofs.Several.{less}
 use Rattle.formulas.specs.Run.{with-values}
