@@ -26,14 +26,10 @@ ball-readings-requires : tie.Need-ball-readings-requires
 ball-readings-requires c κs = search needs
 
 enough-requires : tie.Need-enough-requires
-enough-requires c κs =
-    let e = by-case check-answer (c .before .before .before .before .check .ensures) (c .before .before .h .given .1) in
-    formed (c .before .before .before .before .before .before .before .before .args .s .now) e .limits
+enough-requires c κs = search needs
 
 enough-requires-2 : tie.Need-enough-requires-2
-enough-requires-2 c κs =
-    let e = by-case check-answer (c .before .before .before .before .before .check .ensures) (c .before .before .before .h .given .1) in
-    formed (c .before .before .before .before .before .before .before .before .before .args .s .now) e .limits
+enough-requires-2 c κs = search needs
 
 returns : tie.Need-returns
 returns c =

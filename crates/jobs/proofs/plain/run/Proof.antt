@@ -23,9 +23,7 @@ plain-readings-requires : tie.Need-plain-readings-requires
 plain-readings-requires c κs = search needs
 
 enough-requires : tie.Need-enough-requires
-enough-requires c κs =
-    let e = by-case check-answer (c .before .before .before .before .check .ensures) (c .before .before .h .given .1) in
-    formed (c .before .before .before .before .before .before .args .s .now) e .limits
+enough-requires c κs = search needs
 
 returns : tie.Need-returns
 returns c =
