@@ -74,14 +74,6 @@ def formula(data):
     return (scale, m, l, n), program, outputs
 
 
-def check(data):
-    """What the check job prints of these bytes."""
-    try:
-        return "formula " + " ".join(map(str, formula(data)[0]))
-    except Refused as refusal:
-        return f"refused {refusal.number}"
-
-
 def pack(scale, m, program, outputs, version=1, n=None, l=None):
     """The bytes of a formula, its fields as they are given, permitted or not."""
     fields = [(version, 7), (scale, 5), (m, 5), (len(program) if l is None else l, 10), (len(outputs) if n is None else n, 5)]

@@ -44,10 +44,14 @@ plain-tested xs h = eqb (length xs) (h .inputs) && all-plain xs
 unfoldable pub plain-job : List ℕ → List ℤ → ℕ → ℕ → Result ℤ
 plain-job s xs work output = job plain-rule (pos 0) (λ f. if-fit (plain-tested xs (f .header)) xs) (λ f. has-room (f .header) work output) (formula s)
 
-abbrev pub PlainKept : List ℕ → List ℤ → List ℤ → List ℤ → List ℤ → List ℤ → Reply → Type 0
-PlainKept s xs work output work₁ output₁ r =
+-- what the job says is told as `told`, and the lists hold what it leaves
+abbrev pub PlainLeft : List ℕ → List ℤ → List ℤ → List ℤ → List ℤ → List ℤ → (Said → Type 0) → Type 0
+PlainLeft s xs work output work₁ output₁ told =
     let j = plain-job s xs (length work) (length output) in
-    (reply-said r ≡ said j) × (work₁ ≡ over (work-of j) work) × (output₁ ≡ over (outputs-of j) output)
+    told (said j) × (work₁ ≡ over (work-of j) work) × (output₁ ≡ over (outputs-of j) output)
+
+abbrev pub PlainKept : List ℕ → List ℤ → List ℤ → List ℤ → List ℤ → List ℤ → Reply → Type 0
+PlainKept s xs work output work₁ output₁ r = PlainLeft s xs work output work₁ output₁ (λ t. reply-said r ≡ t)
 
 abbrev pub ball-tested : List ℤ → List ℤ → Header → Bool
 ball-tested cs rs h = eqb (length cs) (h .inputs) && (eqb (length rs) (h .inputs) && all-balls cs rs)
@@ -60,11 +64,14 @@ unfoldable pub ball-job : List ℕ → List ℤ → List ℤ → ℕ → ℕ →
 ball-job s cs rs workc workm outputc outputm =
     job ball-rule (ball (pos 0) 0) (λ f. if-fit (ball-tested cs rs (f .header)) (balls cs (map natAbs rs))) (λ f. ball-room (f .header) workc workm outputc outputm) (formula s)
 
-abbrev pub BallKept : List ℕ → List ℤ → List ℤ → List ℤ → List ℕ → List ℤ → List ℕ → List ℤ → List ℕ → List ℤ → List ℕ → Reply → Type 0
-BallKept s cs rs workc workm outputc outputm workc₁ workm₁ outputc₁ outputm₁ r =
+abbrev pub BallLeft : List ℕ → List ℤ → List ℤ → List ℤ → List ℕ → List ℤ → List ℕ → List ℤ → List ℕ → List ℤ → List ℕ → (Said → Type 0) → Type 0
+BallLeft s cs rs workc workm outputc outputm workc₁ workm₁ outputc₁ outputm₁ told =
     let j = ball-job s cs rs (length workc) (length workm) (length outputc) (length outputm) in
-    (reply-said r ≡ said j) × (workc₁ ≡ over (centres-of (work-of j)) workc) × (workm₁ ≡ over (margins-of (work-of j)) workm)
+    told (said j) × (workc₁ ≡ over (centres-of (work-of j)) workc) × (workm₁ ≡ over (margins-of (work-of j)) workm)
     × (outputc₁ ≡ over (centres-of (outputs-of j)) outputc) × (outputm₁ ≡ over (margins-of (outputs-of j)) outputm)
+
+abbrev pub BallKept : List ℕ → List ℤ → List ℤ → List ℤ → List ℕ → List ℤ → List ℕ → List ℤ → List ℕ → List ℤ → List ℕ → Reply → Type 0
+BallKept s cs rs workc workm outputc outputm workc₁ workm₁ outputc₁ outputm₁ r = BallLeft s cs rs workc workm outputc outputm workc₁ workm₁ outputc₁ outputm₁ (λ t. reply-said r ≡ t)
 
 abbrev pub admit-tested : List ℤ → List ℤ → List ℤ → Header → Bool
 admit-tested cs ss rs h = eqb (length cs) (h .inputs) && (eqb (length ss) (h .inputs) && (eqb (length rs) (h .inputs) && all-matryoshki cs ss rs))
@@ -77,9 +84,13 @@ unfoldable pub admit-job : List ℕ → List ℤ → List ℤ → List ℤ → �
 admit-job s cs ss rs workc works workm outputc outputs outputm =
     job matryoshka-rule nothing (λ f. if-fit (admit-tested cs ss rs (f .header)) (matryoshki cs (map natAbs ss) (map natAbs rs))) (λ f. admit-room (f .header) workc works workm outputc outputs outputm) (formula s)
 
-abbrev pub AdmitKept : List ℕ → List ℤ → List ℤ → List ℤ → List ℤ → List ℕ → List ℕ → List ℤ → List ℕ → List ℕ → List ℤ → List ℕ → List ℕ → List ℤ → List ℕ → List ℕ → Reply → Type 0
-AdmitKept s cs ss rs workc works workm outputc outputs outputm workc₁ works₁ workm₁ outputc₁ outputs₁ outputm₁ r =
+abbrev pub AdmitLeft : List ℕ → List ℤ → List ℤ → List ℤ → List ℤ → List ℕ → List ℕ → List ℤ → List ℕ → List ℕ → List ℤ → List ℕ → List ℕ → List ℤ → List ℕ → List ℕ → (Said → Type 0) → Type 0
+AdmitLeft s cs ss rs workc works workm outputc outputs outputm workc₁ works₁ workm₁ outputc₁ outputs₁ outputm₁ told =
     let j = admit-job s cs ss rs (length workc) (length works) (length workm) (length outputc) (length outputs) (length outputm) in
-    (reply-said r ≡ said j)
+    told (said j)
     × (workc₁ ≡ over (middles-of (work-of j)) workc) × (works₁ ≡ over (strays-of (work-of j)) works) × (workm₁ ≡ over (static-margins-of (work-of j)) workm)
     × (outputc₁ ≡ over (middles-of (outputs-of j)) outputc) × (outputs₁ ≡ over (strays-of (outputs-of j)) outputs) × (outputm₁ ≡ over (static-margins-of (outputs-of j)) outputm)
+
+abbrev pub AdmitKept : List ℕ → List ℤ → List ℤ → List ℤ → List ℤ → List ℕ → List ℕ → List ℤ → List ℕ → List ℕ → List ℤ → List ℕ → List ℕ → List ℤ → List ℕ → List ℕ → Reply → Type 0
+AdmitKept s cs ss rs workc works workm outputc outputs outputm workc₁ works₁ workm₁ outputc₁ outputs₁ outputm₁ r =
+    AdmitLeft s cs ss rs workc works workm outputc outputs outputm workc₁ works₁ workm₁ outputc₁ outputs₁ outputm₁ (λ t. reply-said r ≡ t)

@@ -1,0 +1,13 @@
+/* The four jobs by hand in C, with the signatures of margins.h: what the proved library is measured against. */
+#ifndef BASELINE_H
+#define BASELINE_H
+
+#include "margins.h"
+
+/* The type is taken from the library's function, so the two cannot drift apart. */
+__typeof__(margins_check) baseline_check;
+__typeof__(margins_plain) baseline_plain;
+__typeof__(margins_ball) baseline_ball;
+__typeof__(margins_admit) baseline_admit;
+
+#endif

@@ -1,0 +1,189 @@
+/* bench: the library beside the baseline, in small batches by turns; prints ratios of medians and how time grows with the instructions.
+ * bench count WORKLOAD SIDE JOB RUNS: runs one job so often and measures nothing, for a tool that counts instructions. */
+#define _POSIX_C_SOURCE 199309L
+#include "baseline.h"
+#include "workloads.h"
+
+#include <stdio.h>
+#include <stdlib.h>
+#include <string.h>
+#include <time.h>
+
+enum { CHECK, PLAIN, BALL, ADMIT, JOBS };
+enum { BASELINE, LIBRARY, SIDES };
+enum { ROUNDS = 501, BATCH_NANOSECONDS = 20000, TRIED_RUNS = 100, VALUES = MARGINS_MOST_VALUES, OUTPUTS = MARGINS_MOST_OUTPUTS };
+
+static const char *const job_names[JOBS] = {"check", "plain", "ball", "admit"};
+static const uint32_t growing[] = {16, 64, 256, 512};
+
+/* What a run leaves, cleared before two runs are compared. */
+static struct {
+    int64_t work[VALUES], output[OUTPUTS];
+    uint64_t work_strays[VALUES], output_strays[OUTPUTS];
+    uint64_t work_margins[VALUES], output_margins[OUTPUTS];
+} left;
+
+typedef uint32_t run(const workload *w);
+
+/* One function for each job of each side. */
+#define RUNS(side)                                                                                                                       \
+    static uint32_t side##_check_run(const workload *w)                                                                                  \
+    {                                                                                                                                    \
+        return side##_check(w->bytes, w->length).refusal;                                                                                \
+    }                                                                                                                                    \
+    static uint32_t side##_plain_run(const workload *w)                                                                                  \
+    {                                                                                                                                    \
+        return side##_plain(w->bytes, w->length, w->middles, w->inputs, left.work, VALUES, left.output, OUTPUTS).refusal;                \
+    }                                                                                                                                    \
+    static uint32_t side##_ball_run(const workload *w)                                                                                   \
+    {                                                                                                                                    \
+        return side##_ball(w->bytes, w->length, w->middles, w->inputs, w->margins, w->inputs, left.work, VALUES,                         \
+                           left.work_margins, VALUES, left.output, OUTPUTS, left.output_margins, OUTPUTS).refusal;                       \
+    }                                                                                                                                    \
+    static uint32_t side##_admit_run(const workload *w)                                                                                  \
+    {                                                                                                                                    \
+        return side##_admit(w->bytes, w->length, w->middles, w->inputs, w->strays, w->inputs, w->margins, w->inputs, left.work, VALUES,  \
+                            left.work_strays, VALUES, left.work_margins, VALUES, left.output, OUTPUTS, left.output_strays, OUTPUTS,      \
+                            left.output_margins, OUTPUTS).refusal;                                                                       \
+    }
+
+RUNS(baseline)
+RUNS(margins)
+
+static run *const runs[SIDES][JOBS] = {
+    {baseline_check_run, baseline_plain_run, baseline_ball_run, baseline_admit_run},
+    {margins_check_run, margins_plain_run, margins_ball_run, margins_admit_run},
+};
+
+typedef struct {
+    double nanoseconds[SIDES][JOBS];
+} medians;
+
+static void fail(const char *why, const workload *w, int job)
+{
+    fprintf(stderr, "bench: %s: %s: %s\n", w->name, job_names[job], why);
+    exit(1);
+}
+
+/* Both sides accept and leave the same. */
+static void agree(const workload *w)
+{
+    static __typeof__(left) kept;
+    for (int job = 0; job < JOBS; job++) {
+        memset(&left, 0, sizeof left);
+        if (runs[BASELINE][job](w))
+            fail("the baseline refuses", w, job);
+        kept = left;
+        memset(&left, 0, sizeof left);
+        if (runs[LIBRARY][job](w))
+            fail("the library refuses", w, job);
+        if (memcmp(&kept, &left, sizeof left))
+            fail("the two differ", w, job);
+    }
+}
+
+static double now(void)
+{
+    struct timespec t;
+    clock_gettime(CLOCK_MONOTONIC, &t);
+    return (double)t.tv_sec * 1e9 + (double)t.tv_nsec;
+}
+
+static double batch(run *job, const workload *w, int times)
+{
+    uint32_t refusals = 0;
+    double begun = now();
+    for (int i = 0; i < times; i++)
+        refusals |= job(w);
+    double taken = now() - begun;
+    if (refusals)
+        exit(1);
+    return taken / times;
+}
+
+static int by_size(const void *one, const void *other)
+{
+    double a = *(const double *)one, b = *(const double *)other;
+    return (a > b) - (a < b);
+}
+
+/* A small batch of each side of each job in turn, so that whatever slows the machine slows all of them. */
+static medians measure(const workload *w)
+{
+    static double taken[SIDES][JOBS][ROUNDS];
+    int times[SIDES][JOBS];
+    medians found;
+    agree(w);
+    for (int side = 0; side < SIDES; side++)
+        for (int job = 0; job < JOBS; job++)
+            times[side][job] = 1 + (int)(BATCH_NANOSECONDS / batch(runs[side][job], w, TRIED_RUNS));
+    for (int round = 0; round < ROUNDS; round++)
+        for (int job = 0; job < JOBS; job++)
+            for (int turn = 0; turn < SIDES; turn++) {
+                int side = (turn + round) % SIDES;
+                taken[side][job][round] = batch(runs[side][job], w, times[side][job]);
+            }
+    for (int side = 0; side < SIDES; side++)
+        for (int job = 0; job < JOBS; job++) {
+            qsort(taken[side][job], ROUNDS, sizeof(double), by_size);
+            found.nanoseconds[side][job] = taken[side][job][ROUNDS / 2];
+        }
+    return found;
+}
+
+static void heading(const char *words)
+{
+    printf("%-24s", words);
+    for (int job = 0; job < JOBS; job++)
+        printf("%8s", job_names[job]);
+}
+
+static void ratios(const workload *w, int count)
+{
+    heading("library over baseline");
+    printf("%24s\n", "library's ball/plain");
+    for (int i = 0; i < count; i++) {
+        medians found = measure(&w[i]);
+        printf("%-24s", w[i].name);
+        for (int job = 0; job < JOBS; job++)
+            printf("%8.2f", found.nanoseconds[LIBRARY][job] / found.nanoseconds[BASELINE][job]);
+        printf("%24.2f\n", found.nanoseconds[LIBRARY][BALL] / found.nanoseconds[LIBRARY][PLAIN]);
+    }
+}
+
+static void growth(void)
+{
+    heading("ns an instruction");
+    printf("  (library, then baseline)\n");
+    for (size_t i = 0; i < sizeof growing / sizeof *growing; i++) {
+        workload w = mix(growing[i]);
+        medians found = measure(&w);
+        for (int side = SIDES; side-- > 0;) {
+            printf("%-24s", side == LIBRARY ? w.name : "");
+            for (int job = 0; job < JOBS; job++)
+                printf("%8.1f", found.nanoseconds[side][job] / w.instructions);
+            printf("\n");
+        }
+    }
+}
+
+int main(int arguments, char **argument)
+{
+    const workload w[] = {dot_product(), polynomial(), mix(512)};
+    const int all = sizeof w / sizeof *w;
+    if (arguments == 1) {
+        ratios(w, all);
+        growth();
+        return 0;
+    }
+    int chosen = arguments == 6 ? atoi(argument[2]) : all, side = arguments == 6 ? atoi(argument[3]) : SIDES,
+        job = arguments == 6 ? atoi(argument[4]) : JOBS;
+    if (strcmp(argument[1], "count") != 0 || chosen < 0 || chosen >= all || side < 0 || side >= SIDES || job < 0 || job >= JOBS) {
+        fprintf(stderr, "bench: no argument, or: count WORKLOAD SIDE JOB RUNS, numbers from 0\n");
+        return 1;
+    }
+    for (int i = atoi(argument[5]); i > 0; i--)
+        if (runs[side][job](&w[chosen]))
+            return 1;
+    return 0;
+}

@@ -1,0 +1,109 @@
+#include "workloads.h"
+
+#include <stdio.h>
+
+enum { CONSTANT, NEGATE, ADD, SUBTRACT, MULTIPLY };
+enum { SCALE = 16, UNIT = 1 << SCALE, TERMS = 8, DEGREE = 15, RECENT = 8 };
+
+/* The formula of a workload while it is packed. */
+typedef struct {
+    workload made;
+    size_t bits;
+    uint32_t seed;
+} packing;
+
+static uint32_t any(packing *p, uint32_t below)
+{
+    p->seed = p->seed * 1664525 + 1013904223;
+    return (p->seed >> 8) % below;
+}
+
+static void put(packing *p, uint32_t number, int width)
+{
+    while (width--) {
+        if (number >> width & 1)
+            p->made.bytes[p->bits >> 3] |= (uint8_t)(128 >> (p->bits & 7));
+        p->bits++;
+    }
+    p->made.length = (p->bits + 7) >> 3;
+}
+
+static packing start(uint32_t inputs, uint32_t instructions)
+{
+    packing p = {.made = {.inputs = inputs, .instructions = instructions}, .seed = 1};
+    put(&p, 1, 7);
+    put(&p, SCALE, 5);
+    put(&p, inputs, 5);
+    put(&p, instructions, 10);
+    put(&p, 1, 5);
+    for (uint32_t i = 0; i < inputs; i++) {
+        p.made.middles[i] = (int64_t)any(&p, 2 * UNIT) - UNIT;
+        p.made.strays[i] = any(&p, 100);
+        p.made.margins[i] = any(&p, 10);
+    }
+    return p;
+}
+
+static void constant(packing *p, int32_t number)
+{
+    put(p, CONSTANT, 3);
+    put(p, (uint32_t)number, 32);
+}
+
+static void two(packing *p, uint32_t code, uint32_t left, uint32_t right)
+{
+    put(p, code, 3);
+    put(p, left, 10);
+    put(p, right, 10);
+}
+
+/* The last value is the only output. */
+static workload finish(packing *p)
+{
+    put(p, p->made.inputs + p->made.instructions - 1, 10);
+    return p->made;
+}
+
+workload dot_product(void)
+{
+    packing p = start(2 * TERMS, 2 * TERMS - 1);
+    snprintf(p.made.name, sizeof p.made.name, "dot product of %d", TERMS);
+    for (uint32_t i = 0; i < TERMS; i++)
+        two(&p, MULTIPLY, i, TERMS + i);
+    for (uint32_t i = 1; i < TERMS; i++)
+        two(&p, ADD, i == 1 ? 2 * TERMS : 3 * TERMS + i - 2, 2 * TERMS + i);
+    return finish(&p);
+}
+
+workload polynomial(void)
+{
+    packing p = start(1, 1 + 3 * DEGREE);
+    snprintf(p.made.name, sizeof p.made.name, "polynomial of degree %d", DEGREE);
+    constant(&p, UNIT / 2);
+    for (uint32_t sum = 1; sum < 1 + 3 * DEGREE; sum += 3) {
+        two(&p, MULTIPLY, sum, 0);
+        constant(&p, (int32_t)any(&p, 2 * UNIT) - UNIT);
+        two(&p, ADD, sum + 1, sum + 2);
+    }
+    return finish(&p);
+}
+
+/* One operand is a late value and the other an input of size at most 1, so that values grow by sums only. */
+workload mix(uint32_t instructions)
+{
+    static const uint32_t codes[] = {CONSTANT, NEGATE, ADD, ADD, SUBTRACT, SUBTRACT, MULTIPLY, MULTIPLY, MULTIPLY, MULTIPLY};
+    packing p = start(MARGINS_MOST_INPUTS, instructions);
+    snprintf(p.made.name, sizeof p.made.name, "mix of %u", instructions);
+    for (uint32_t value = p.made.inputs; value < p.made.inputs + instructions; value++) {
+        uint32_t code = codes[any(&p, sizeof codes / sizeof *codes)], late = value - 1 - any(&p, RECENT);
+        if (code == CONSTANT) {
+            constant(&p, (int32_t)any(&p, 2 * UNIT) - UNIT);
+        } else if (code == NEGATE) {
+            put(&p, code, 3);
+            put(&p, late, 10);
+        } else {
+            two(&p, code, late, any(&p, p.made.inputs));
+        }
+    }
+    return finish(&p);
+}

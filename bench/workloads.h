@@ -1,0 +1,24 @@
+/* Formulas with readings for the benchmark; every run of them stays in reach. */
+#ifndef WORKLOADS_H
+#define WORKLOADS_H
+
+#include "margins.h"
+
+typedef struct {
+    char name[32];
+    uint8_t bytes[2264];
+    size_t length;
+    uint32_t inputs, instructions;
+    int64_t middles[MARGINS_MOST_INPUTS], strays[MARGINS_MOST_INPUTS], margins[MARGINS_MOST_INPUTS];
+} workload;
+
+/* 16 inputs, 8 products and 7 sums. */
+workload dot_product(void);
+
+/* Horner's rule for a polynomial of degree 15 in one input. */
+workload polynomial(void);
+
+/* Instructions of all codes in an order that looks random; at most 512 of them. */
+workload mix(uint32_t instructions);
+
+#endif

@@ -1,0 +1,4 @@
+-- What the program prints, as bytes, and what a list holds after bytes were written into it.
+pub mod Decimal
+pub mod Written
+pub mod Lines

@@ -1,0 +1,29 @@
+// Numbers in decimal.
+ghost use Prim.Native.Nat.{_+_, _≤_};
+ghost use lib.ListN.{length};
+ghost use Rattle.printing.specs.Decimal.{decimal, signed};
+ghost use Rattle.printing.specs.Written.{Wrote};
+use crate::bytes::put;
+use whole::magnitude;
+
+pub fn put_number(n: u64, out: &mut [u8], at: usize) -> usize
+    requires { ⌜ at + 20 ≤ length (now out) ⌝ }
+    ensures { λ r. ⌜ Wrote (decimal n) at (now (out .entry)) (now (out .exit)) r ⌝ }
+{
+    if n < 10 {
+        return put(b'0' + n as u8, out, at);
+    }
+    let next = put_number(n / 10, out, at);
+    put(b'0' + (n % 10) as u8, out, next)
+}
+
+pub fn put_signed(x: i64, out: &mut [u8], at: usize) -> usize
+    requires { ⌜ at + 21 ≤ length (now out) ⌝ }
+    ensures { λ r. ⌜ Wrote (signed x) at (now (out .entry)) (now (out .exit)) r ⌝ }
+{
+    if x < 0 {
+        let next = put(b'-', out, at);
+        return put_number(magnitude(x), out, next);
+    }
+    put_number(magnitude(x), out, at)
+}

@@ -1,0 +1,2 @@
+-- What the program `margins` prints for what it reads.
+pub mod Program

@@ -1,0 +1,106 @@
+//! The C functions of `include/margins.h`, each called once. A slice is what they ask of a list: memory that is there, aligned and, where it
+//! is written, disjoint from every other.
+use crate::{Formula, LentBalls, LentMatryoshki, Reading, Refusal, Refused};
+
+#[repr(C)]
+struct Reply {
+    refusal: u32,
+    outputs: u32,
+    place: u64,
+}
+
+#[repr(C)]
+struct Checked {
+    refusal: u32,
+    scale: u32,
+    inputs: u16,
+    outputs: u16,
+    instructions: u32,
+}
+
+extern "C" {
+    fn margins_check(formula: *const u8, formula_length: usize) -> Checked;
+    fn margins_plain(
+        formula: *const u8, formula_length: usize, readings: *const i64, readings_length: usize,
+        work: *mut i64, work_length: usize, output: *mut i64, output_length: usize,
+    ) -> Reply;
+    fn margins_ball(
+        formula: *const u8, formula_length: usize, centres: *const i64, centres_length: usize, margins: *const i64, margins_length: usize,
+        work_centres: *mut i64, work_centres_length: usize, work_margins: *mut u64, work_margins_length: usize,
+        output_centres: *mut i64, output_centres_length: usize, output_margins: *mut u64, output_margins_length: usize,
+    ) -> Reply;
+    fn margins_ball_records(
+        formula: *const u8, formula_length: usize, readings: *const Reading, readings_length: usize,
+        work_centres: *mut i64, work_centres_length: usize, work_margins: *mut u64, work_margins_length: usize,
+        output_centres: *mut i64, output_centres_length: usize, output_margins: *mut u64, output_margins_length: usize,
+    ) -> Reply;
+    fn margins_admit(
+        formula: *const u8, formula_length: usize, middles: *const i64, middles_length: usize, strays: *const i64, strays_length: usize,
+        margins: *const i64, margins_length: usize, work_middles: *mut i64, work_middles_length: usize,
+        work_strays: *mut u64, work_strays_length: usize, work_margins: *mut u64, work_margins_length: usize,
+        output_middles: *mut i64, output_middles_length: usize, output_strays: *mut u64, output_strays_length: usize,
+        output_margins: *mut u64, output_margins_length: usize,
+    ) -> Reply;
+}
+
+fn told(reply: Reply) -> Result<usize, Refused> {
+    match Refusal::numbered(reply.refusal) {
+        None => Ok(reply.outputs as usize),
+        Some(refusal) => Err(Refused { refusal, place: reply.place as usize }),
+    }
+}
+
+pub fn check(formula: &[u8]) -> Result<Formula, Refusal> {
+    let c = unsafe { margins_check(formula.as_ptr(), formula.len()) };
+    match Refusal::numbered(c.refusal) {
+        None => Ok(Formula {
+            scale: c.scale,
+            inputs: c.inputs.into(),
+            instructions: c.instructions as usize,
+            outputs: c.outputs.into(),
+        }),
+        Some(refusal) => Err(refusal),
+    }
+}
+
+pub fn plain(formula: &[u8], readings: &[i64], work: &mut [i64], output: &mut [i64]) -> Result<usize, Refused> {
+    told(unsafe {
+        margins_plain(
+            formula.as_ptr(), formula.len(), readings.as_ptr(), readings.len(),
+            work.as_mut_ptr(), work.len(), output.as_mut_ptr(), output.len(),
+        )
+    })
+}
+
+pub fn ball(formula: &[u8], centres: &[i64], margins: &[i64], work: LentBalls, output: LentBalls) -> Result<usize, Refused> {
+    told(unsafe {
+        margins_ball(
+            formula.as_ptr(), formula.len(), centres.as_ptr(), centres.len(), margins.as_ptr(), margins.len(),
+            work.centres.as_mut_ptr(), work.centres.len(), work.margins.as_mut_ptr(), work.margins.len(),
+            output.centres.as_mut_ptr(), output.centres.len(), output.margins.as_mut_ptr(), output.margins.len(),
+        )
+    })
+}
+
+pub fn ball_records(formula: &[u8], readings: &[Reading], work: LentBalls, output: LentBalls) -> Result<usize, Refused> {
+    told(unsafe {
+        margins_ball_records(
+            formula.as_ptr(), formula.len(), readings.as_ptr(), readings.len(),
+            work.centres.as_mut_ptr(), work.centres.len(), work.margins.as_mut_ptr(), work.margins.len(),
+            output.centres.as_mut_ptr(), output.centres.len(), output.margins.as_mut_ptr(), output.margins.len(),
+        )
+    })
+}
+
+pub fn admit(
+    formula: &[u8], middles: &[i64], strays: &[i64], margins: &[i64], work: LentMatryoshki, output: LentMatryoshki,
+) -> Result<usize, Refused> {
+    told(unsafe {
+        margins_admit(
+            formula.as_ptr(), formula.len(), middles.as_ptr(), middles.len(), strays.as_ptr(), strays.len(), margins.as_ptr(), margins.len(),
+            work.middles.as_mut_ptr(), work.middles.len(), work.strays.as_mut_ptr(), work.strays.len(),
+            work.margins.as_mut_ptr(), work.margins.len(), output.middles.as_mut_ptr(), output.middles.len(),
+            output.strays.as_mut_ptr(), output.strays.len(), output.margins.as_mut_ptr(), output.margins.len(),
+        )
+    })
+}

@@ -1,0 +1,122 @@
+"""The cases that compare.py runs: document 01's figures, small products, each limit, and random ones, some of them spoilt."""
+
+import random
+from itertools import product
+
+import evaluator
+import reader
+from cuts import all_cuts
+from checks import all_checks
+from damage import damaged, misfielded, roomy, short, wrong_readings
+from figures import figures
+from formulas import CODES, large_run, small_run
+from frames import JOBS, PARTS, Case
+
+RANDOM_RUNS = 66000
+LARGE_EVERY = 50
+MOST_PAIRS = 12000
+
+
+def needed(data, parts):
+    """The lengths of the lent lists that just have room."""
+    _, m, l, n = evaluator.formula(data)[0]
+    return (m + l,) * parts + (n,) * parts
+
+
+def case_of(rng, data, readings):
+    parts = len(readings)
+    return Case(JOBS[parts], data, readings, roomy(rng, needed(data, parts)))
+
+
+def small_products(rng):
+    """Every product of small plain values and balls and many of matryoshki, ties on both sides of zero among them; eight in a formula."""
+    for scale, parts in product((0, 1, 2, 4), (1, 2, 3)):
+        doubts = list(product(range(3), repeat=parts - 1))
+        operands = [(centre, *rest) for centre in range(-9, 10) for rest in doubts]
+        pairs = list(product(operands, repeat=2))
+        rng.shuffle(pairs)
+        for start in range(0, min(len(pairs), MOST_PAIRS), 8):
+            some = pairs[start : start + 8]
+            readings = [value for pair in some for value in pair]
+            program = [(CODES.index("multiply"), 2 * k, 2 * k + 1) for k in range(len(some))]
+            data = reader.pack(scale, len(readings), program, range(len(readings), len(readings) + len(some)))
+            yield case_of(rng, data, tuple([value[part] for value in readings] for part in range(parts)))
+
+
+def spoilt(rng, case):
+    """The case with one thing or more wrong with it."""
+    parts = PARTS[case.job]
+    data, readings, lengths = case.data, case.readings, case.lengths
+    what = rng.choice(("bytes", "bytes", "readings", "room", "two"))
+    if what == "bytes" or (what == "two" and rng.random() < 0.3):
+        data = rng.choice((damaged, misfielded))(rng, data)
+    if what == "readings" or (what == "two" and rng.random() < 0.6):
+        readings = wrong_readings(rng, readings)
+    if what in ("room", "two"):
+        lengths = short(rng, needed(case.data, parts))
+    return Case(case.job, data, readings, lengths)
+
+
+def random_cases(rng):
+    """Each random run, a lesser job on its readings, and the case spoilt or the check."""
+    for i in range(RANDOM_RUNS):
+        parts = rng.randrange(1, 4)
+        data, readings = (small_run if i % LARGE_EVERY else large_run)(rng, parts)
+        case = case_of(rng, data, readings)
+        yield case
+        lesser = rng.randrange(1, parts + 1)
+        if lesser < parts:
+            yield case_of(rng, data, readings[:lesser])
+        if i % 4:
+            yield spoilt(rng, case)
+        else:
+            yield Case("check", data)
+            yield Case("check", rng.choice((damaged, misfielded))(rng, data))
+
+
+def every_scale(rng):
+    """Each scale, its version, scale and counts field by field, in every job."""
+    for scale in range(31):
+        data = reader.pack(scale, 1, [(CODES.index("multiply"), 0, 0)], [1])
+        for parts in (1, 2, 3):
+            case = case_of(rng, data, ([1 << scale], [1], [1])[:parts])
+            yield case
+            for bit in range(32):
+                flipped = bytearray(data)
+                flipped[bit // 8] ^= 128 >> bit % 8
+                yield case._replace(data=bytes(flipped))
+
+
+def lengths_near(rng):
+    """Every number of readings and of places around what a formula needs, list by list."""
+    data = reader.pack(4, 3, [(CODES.index("multiply"), 0, 1), (CODES.index("add"), 2, 3)], [4, 0])
+    readings = [24, -10, 5], [3, 2, 0], [1, 1, 2]
+    for parts in (1, 2, 3):
+        case = case_of(rng, data, readings[:parts])
+        for part, length in product(range(parts), range(18)):
+            lists = tuple((numbers * 6)[:length] if i == part else numbers for i, numbers in enumerate(case.readings))
+            yield case._replace(readings=lists)
+            yield case._replace(readings=tuple((numbers * 6)[:length] for numbers in case.readings))
+        for number, length in product(range(2 * parts), range(8)):
+            yield case._replace(lengths=tuple(length if i == number else enough for i, enough in enumerate(needed(data, parts))))
+
+
+def cut_cases():
+    """Bytes with something wrong in them, to each job in turn."""
+    readings, lengths = ([1] * 10, [0] * 10, [0] * 10), (40, 40, 40, 16, 16, 16)
+    for i, data in enumerate(all_cuts()):
+        parts = 1 + i % 3
+        yield Case("check", data)
+        yield Case(JOBS[parts], data, readings[:parts], lengths[: 2 * parts])
+
+
+def all_cases(seed=1):
+    rng = random.Random(seed)
+    for case, _, _ in figures():
+        yield case
+    yield from small_products(rng)
+    yield from every_scale(rng)
+    yield from lengths_near(rng)
+    yield from cut_cases()
+    yield from (Case("check", data) for data in all_checks())
+    yield from random_cases(rng)

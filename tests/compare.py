@@ -1,0 +1,152 @@
+"""compare.py DRIVER-COMMAND...: runs all cases through the driver and compares every reply and every place of every lent list with the
+second evaluator; then tries demands 2 and 3 on what was accepted."""
+
+import random
+import struct
+import sys
+from collections import Counter
+from itertools import islice
+
+import cases
+import checks
+import demands
+import driver
+import frames
+import reader
+from evaluator import formula
+from figures import figures
+
+CHUNK = 4000
+DIFFERENCES_SHOWN = 5
+SHARE_OF_ADMISSIONS = 0.5
+LEAST_SHARE_MULTIPLIED = 0.4
+LONGEST = 2264
+
+
+class Comparison:
+    def __init__(self, command):
+        self.command = command
+        self.rng = random.Random(2)
+        self.passed = self.failed = self.multiplied = 0
+        self.refusals = {job: Counter() for job in frames.JOBS}
+        self.tried = Counter()
+
+    def judge(self, good, case, *words):
+        if good:
+            self.passed += 1
+            return
+        self.failed += 1
+        if self.failed <= DIFFERENCES_SHOWN:
+            print(f"{case.job}: {case.data.hex()}\n  readings {case.readings}\n  lengths of the lent lists {case.lengths}")
+            print(*words, sep="\n", flush=True)
+
+    def figures(self):
+        """The second evaluator itself on document 01's figures."""
+        for case, refusal, outputs in figures():
+            want = frames.wanted(case)
+            self.judge((want.refusal, want.outputs) == (refusal, outputs), case, f"  document 01 has {refusal} {outputs}")
+
+    def reader_itself(self):
+        """The second reader itself on what document 01 says of a header, and the length of the longest formula."""
+        for data, want in checks.figures():
+            self.judge(header(data) == want, frames.Case("check", data), f"  document 01 has {want}")
+        self.expect(len(checks.longest()) == LONGEST, "the longest formula has another length")
+
+    def chunk(self, some):
+        """Compares some cases, and a plain and a ball case inside the domain of each admission that is picked."""
+        wanted = [frames.wanted(case) for case in some]
+        admissions = [i for i, want in enumerate(wanted) if some[i].job == "admit" and not want.refusal and self.picked()]
+        inside = [case for i in admissions for case in demands.covered(self.rng, some[i])]
+        whole = some + inside
+        replies = driver.replies(self.command, whole)
+        if replies is None:
+            self.judge(False, driver.first_unanswered(self.command, whole), "  the driver ended early")
+            return False
+        for case, want, reply in zip(whole, wanted + [frames.wanted(case) for case in inside], replies):
+            self.compare(case, want, reply)
+        for number, i in enumerate(admissions):
+            plain = len(some) + 2 * number
+            self.demand_3(*((whole[j], replies[j]) for j in (i, plain, plain + 1)))
+        return True
+
+    def picked(self):
+        return self.rng.random() < SHARE_OF_ADMISSIONS
+
+    def compare(self, case, want, reply):
+        same = want.reply == reply
+        words = () if same else ("  second evaluator:", frames.told(case, want.reply), "  driver:", frames.told(case, reply))
+        self.judge(same, case, *words)
+        self.refusals[case.job][want.refusal] += 1
+        if want.refusal == 0:
+            self.multiplied += any(name == "multiply" for name, *_ in formula(case.data)[1])
+            if same and case.job == "ball":
+                self.demand_2(case, want.values)
+
+    def demand_2(self, case, values):
+        enclosed = demands.encloses(self.rng, case.data, list(zip(*case.readings)), values)
+        if enclosed is not None:
+            self.judge(enclosed, case, "  demand 2 fails")
+            self.tried["demand 2"] += 1
+
+    def demand_3(self, admission, plain, ball):
+        balls = list(zip(*ball[0].readings))
+        answers = answer(*plain), answer(*ball)
+        kept = demands.keeps(self.rng, admission[0].data, balls, answer(*admission)[1], *answers)
+        self.judge(kept, admission[0], "  demand 3 fails on the balls", f"    {balls}")
+        self.tried["demand 3"] += 1
+
+    def sanity(self):
+        """Whether the cases are what they are meant to be: each refusal in each job, and enough that is accepted."""
+        for job, counts in self.refusals.items():
+            numbers = range(9) if job == "check" else range(12)
+            print(f"{job}: " + ", ".join(f"{number}: {counts[number]}" for number in numbers))
+            self.expect(all(counts[number] for number in numbers), f"{job}: a refusal that no case meets")
+        total = sum(sum(counts.values()) for counts in self.refusals.values())
+        runs = total - sum(self.refusals["check"].values())
+        tried = ", ".join(f"{name} {count}" for name, count in sorted(self.tried.items()))
+        print(f"cases {total}, accepted with a multiplication {self.multiplied}, {tried}")
+        self.expect(self.multiplied > LEAST_SHARE_MULTIPLIED * runs, "too few cases are accepted and multiply")
+
+    def expect(self, good, words):
+        self.passed += good
+        self.failed += not good
+        if not good:
+            print(words)
+
+
+def header(data):
+    """0 and F, m, l and n, or the refusal."""
+    try:
+        return 0, *formula(data)[0]
+    except reader.Refused as refusal:
+        return (refusal.number,)
+
+
+def answer(case, reply):
+    """The refusal and the values that a run's reply holds."""
+    refusal = struct.unpack_from("<I", reply)[0]
+    if refusal:
+        return refusal, []
+    parts, start = [], frames.HEAD
+    _, m, l, _ = formula(case.data)[0]
+    for part, length in enumerate(case.lengths[: frames.PARTS[case.job]]):
+        parts.append(struct.unpack_from(f"<{m + l}{'Q' if part else 'q'}", reply, start))
+        start += 8 * length
+    return refusal, list(zip(*parts))
+
+
+def main(command):
+    comparison = Comparison(command)
+    comparison.figures()
+    comparison.reader_itself()
+    stream = cases.all_cases()
+    while some := list(islice(stream, CHUNK)):
+        if not comparison.chunk(some):
+            break
+    comparison.sanity()
+    print(f"{comparison.passed} passed, {comparison.failed} failed")
+    return 1 if comparison.failed else 0
+
+
+if __name__ == "__main__":
+    sys.exit(main(sys.argv[1:]))

@@ -1,0 +1,31 @@
+"""Starts the driver on cases."""
+
+import subprocess
+
+import frames
+
+
+def replies(command, some):
+    """The bytes of each reply, or none where the driver ended early."""
+    asked = b"".join(map(frames.asked, some))
+    ended = subprocess.run(command, input=asked, stdout=subprocess.PIPE, check=False)
+    sizes = list(map(frames.reply_size, some))
+    if ended.returncode or len(ended.stdout) != sum(sizes):
+        return None
+    found, start = [], 0
+    for size in sizes:
+        found.append(ended.stdout[start : start + size])
+        start += size
+    return found
+
+
+def first_unanswered(command, some):
+    """The first case that the driver does not survive, where it does not survive all of them."""
+    answered, unanswered = 0, len(some)
+    while unanswered - answered > 1:
+        middle = (answered + unanswered) // 2
+        if replies(command, some[:middle]) is None:
+            unanswered = middle
+        else:
+            answered = middle
+    return some[answered]

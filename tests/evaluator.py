@@ -1,0 +1,123 @@
+"""A second evaluator, written from document 01: the three runs in exact integers, and exact arithmetic on fractions.
+
+A value is a tuple: (x,) in a plain run, (centre, margin) in a ball run, (middle, stray, margin) in an admission.
+"""
+
+from fractions import Fraction
+from functools import lru_cache
+
+import reader
+
+M = 2147483647
+
+formula = lru_cache(maxsize=16)(reader.formula)
+
+
+def rounded(scale, p):
+    unit = 1 << scale
+    half = unit // 2 if scale else 0
+    return (p + half) // unit
+
+
+def up(scale, p):
+    return -(-p // (1 << scale))
+
+
+def reach(value):
+    return abs(value[0]) + sum(value[1:])
+
+
+def legal(value):
+    return min(value[1:], default=0) >= 0 and reach(value) <= M
+
+
+def plain_product(scale, left, right):
+    return (rounded(scale, left[0] * right[0]),)
+
+
+def ball_product(scale, left, right):
+    (a, r), (b, s) = left, right
+    c = rounded(scale, a * b)
+    return c, up(scale, (abs(a) + r) * s + abs(b) * r + abs(a * b - c * (1 << scale)))
+
+
+def matryoshka_product(scale, left, right):
+    (A, R, r), (B, S, s) = left, right
+    half = (1 << scale) // 2 if scale else 0
+    stray = up(scale, (abs(A) + R) * S + abs(B) * R)
+    return rounded(scale, A * B), stray, up(scale, (abs(A) + R + r) * s + (abs(B) + S) * r + half)
+
+
+PRODUCTS = {1: plain_product, 2: ball_product, 3: matryoshka_product}
+
+
+def step(scale, parts, instruction, values):
+    """What one instruction makes, in reach or not."""
+    name, first, *second = instruction
+    if name == "constant":
+        return (first, *(0,) * (parts - 1))
+    left = values[first]
+    if name == "negate":
+        return (-left[0], *left[1:])
+    right = values[second[0]]
+    if name == "multiply":
+        return PRODUCTS[parts](scale, left, right)
+    centre = left[0] + right[0] if name == "add" else left[0] - right[0]
+    return (centre, *(r + s for r, s in zip(left[1:], right[1:])))
+
+
+def run(parts, data, readings, lengths):
+    """(refusal, place, values for the work lists, outputs). Lengths are those of the work lists, then of the output lists."""
+    try:
+        (scale, m, l, n), program, outputs = formula(data)
+    except reader.Refused as refusal:
+        return refusal.number, 0, [], []
+    if any(len(numbers) != m for numbers in readings):
+        return 9, 0, [], []
+    values = list(zip(*readings))
+    if not all(map(legal, values)):
+        return 9, 0, [], []
+    if min(lengths[:parts]) < m + l or min(lengths[parts:]) < n:
+        return 10, 0, [], []
+    for k, instruction in enumerate(program):
+        made = step(scale, parts, instruction, values)
+        if reach(made) > M:
+            return 11, k, values, []
+        values.append(made)
+    return 0, 0, values, [values[name] for name in outputs]
+
+
+def plain(data, readings, lengths):
+    return run(1, data, readings, lengths)
+
+
+def ball(data, readings, lengths):
+    return run(2, data, readings, lengths)
+
+
+def admit(data, readings, lengths):
+    return run(3, data, readings, lengths)
+
+
+def exact(scale, program, fractions):
+    """All values in exact arithmetic, with no rounding and no limit."""
+    values = list(fractions)
+    for name, first, *second in program:
+        if name == "constant":
+            made = Fraction(first, 1 << scale)
+        elif name == "negate":
+            made = -values[first]
+        elif name == "add":
+            made = values[first] + values[second[0]]
+        elif name == "subtract":
+            made = values[first] - values[second[0]]
+        else:
+            made = values[first] * values[second[0]]
+        values.append(made)
+    return values
+
+
+def contains(scale, centre, margin, fraction):
+    """Whether the ball contains n/d: |n·Q − c·d| is at most r·d."""
+    n, d = fraction.numerator, fraction.denominator
+    return abs((n << scale) - centre * d) <= margin * d

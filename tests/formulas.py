@@ -1,0 +1,99 @@
+"""Random formulas made along with a run on their readings, so that they stay in reach, or leave it by a little."""
+
+import reader
+from evaluator import M, reach, step
+from numbers_near import permitted, reading
+
+CODES = ("constant", "negate", "add", "subtract", "multiply")
+WEIGHTS = (3, 1, 3, 3, 6)
+TRIES = 4
+SIZES = (0, 1, 2, 2, 3, 3, 4, 5, 6, 7, 8, 12, 20)
+INPUTS = (0, 1, 1, 2, 2, 2, 3, 3, 4, 5, 8, 16)
+OUTPUTS = (1, 1, 1, 2, 3, 5, 16)
+
+
+class Growing:
+    """A formula and the values that its run has made so far."""
+
+    def __init__(self, rng, scale, parts, readings):
+        self.rng, self.scale, self.parts = rng, scale, parts
+        self.values = list(readings)
+        self.inputs = len(readings)
+        self.program = []
+
+    def instruction(self):
+        rng, made = self.rng, len(self.values)
+        code = rng.choices(CODES, WEIGHTS)[0] if made else "constant"
+        if code == "constant":
+            return code, permitted(rng, self.scale)
+        return (code, *(self.operand() for _ in range(1 if code == "negate" else 2)))
+
+    def operand(self):
+        """Any value, but often a late one, so that chains grow deep."""
+        made = len(self.values)
+        return self.rng.randrange(made) if self.rng.getrandbits(1) else made - 1 - self.rng.randrange(min(made, 4))
+
+    def add(self, instruction):
+        made = step(self.scale, self.parts, instruction, self.values)
+        self.program.append(instruction)
+        # The run has stopped before a value that is out of reach; what stands there no longer matters.
+        self.values.append(made if reach(made) <= M else (0,) * self.parts)
+
+    def add_in_reach(self):
+        for _ in range(TRIES):
+            instruction = self.instruction()
+            if reach(step(self.scale, self.parts, instruction, self.values)) <= M:
+                return self.add(instruction)
+        return self.add(("constant", self.rng.randrange(-9, 10)))
+
+    def add_edge(self, beyond):
+        """A constant and a sum or a product whose reach is M, or is just beyond M, or nearly so."""
+        rng = self.rng
+        name = rng.randrange(len(self.values))
+        value = self.values[name]
+        sign = rng.choice((1, -1))
+        if rng.getrandbits(1) and value[0]:
+            about = (M << self.scale) // abs(value[0]) + rng.randrange(-1, 2)
+            constant, code = sign * min(M, about), "multiply"
+        else:
+            constant = (M - reach(value) + beyond) * (-1 if value[0] < 0 else 1)
+            code = "add" if sign > 0 else "subtract"
+            constant *= sign
+        self.add(("constant", max(-M, min(M, constant))))
+        self.add((code, name, len(self.values) - 1) if code == "subtract" or rng.getrandbits(1) else (code, len(self.values) - 1, name))
+
+    def packed(self, outputs):
+        return reader.pack(self.scale, self.inputs, [(CODES.index(name), *rest) for name, *rest in self.program], outputs)
+
+
+def random_outputs(rng, count, values):
+    """The last value is often among them."""
+    return [values - 1 if rng.random() < 0.3 else rng.randrange(values) for _ in range(count)]
+
+
+def random_run(rng, parts, scale, m, l, n):
+    """A formula's bytes with readings for one kind of run: mostly in reach, at times at its edge or out of it."""
+    readings = [reading(rng, scale, parts) for _ in range(m)]
+    growing = Growing(rng, scale, parts, readings)
+    edge = rng.random()
+    while len(growing.program) < l:
+        if edge < 0.3 and growing.values and l - len(growing.program) >= 2 and rng.random() < 2 / l:
+            growing.add_edge(beyond=0 if edge < 0.1 else rng.randrange(1, 3))
+        elif edge < 0.4 and growing.values and rng.random() < 2 / l:
+            growing.add(growing.instruction())
+        else:
+            growing.add_in_reach()
+    data = growing.packed(random_outputs(rng, n, m + l))
+    return data, tuple([value[part] for value in readings] for part in range(parts))
+
+
+def small_run(rng, parts):
+    scale = rng.randrange(31)
+    m, l = rng.choice(INPUTS), rng.choice(SIZES)
+    return random_run(rng, parts, scale, m, l if m + l else 1, rng.choice(OUTPUTS))
+
+
+def large_run(rng, parts):
+    """The limits of document 01 and sizes on the way to them."""
+    m, l, n = rng.choice((0, 1, 8, 15, 16)), rng.choice((60, 128, 255, 256, 511, 512, 512)), rng.choice((1, 15, 16))
+    return random_run(rng, parts, rng.randrange(31), m, l, n)

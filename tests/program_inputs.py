@@ -1,0 +1,91 @@
+"""Inputs for the program `margins`, each with what it is: accepted, refused 1 to 11, and of another form (12)."""
+
+import random
+
+import reader
+from checks import longest
+from cuts import HEADERS, INPUTS, REFUSED
+from damage import wrong_readings
+from figures import EXAMPLE, EXAMPLES
+from formulas import large_run, small_run
+from program_malformed import READING, WORDS, malformed, text
+
+RANDOM_ACCEPTED = 40
+RANDOM_WRONG = 20
+BEYOND_TEN_DIGITS = 10**10
+# Numbers of every permitted form, on each side of the limits.
+NUMBERS = (b"-0", b"007", b"0000000024", b"-000000024", b"2147483647", b"-2147483647", b"2147483648", b"-2147483648",
+           b"4294967295", b"4294967296", b"4294967320", b"-4294967320", b"9999999999", b"-9999999999")
+
+
+def of_lists(data, readings):
+    return text(data, WORDS[len(readings) - 1], [" ".join(map(str, value)).encode() for value in zip(*readings)])
+
+
+def examples():
+    """Document 01's example in each job."""
+    for readings, _ in EXAMPLES:
+        yield "example", of_lists(EXAMPLE, tuple(zip(*readings)))
+
+
+def random_runs(rng):
+    for i in range(RANDOM_ACCEPTED):
+        yield "random run", of_lists(*(small_run if i % 8 else large_run)(rng, 1 + i % 3))
+    for i in range(RANDOM_WRONG):
+        data, readings = small_run(rng, 1 + i % 3)
+        wrong = wrong_readings(rng, readings)
+        if all(abs(number) < BEYOND_TEN_DIGITS for numbers in wrong for number in numbers):
+            yield "random run with wrong readings", of_lists(data, wrong)
+
+
+def refused_formulas():
+    """Each refusal from 1 to 8, with readings that would do, and with readings that would not."""
+    for fields in (*HEADERS[::12], {"scale": 31}):
+        kept = {"scale": 4, "m": 1, "program": [(4, 0, 0)], "outputs": [1]} | fields
+        yield "header", text(reader.pack(**kept), b"plain", [b"24"])
+    for refused in REFUSED:
+        data = reader.pack(4, INPUTS, [refused, (1, 0)], [0])
+        yield "instruction", text(data, b"ball", [b"24 3"] * INPUTS)
+        yield "instruction, no readings", text(data, b"ball", [])
+    for size in range(len(EXAMPLE)):
+        yield "cut formula", text(EXAMPLE[:size], b"admit", [b"24 3 1", b"-10 2 1"])
+    for more in (b"\0", b"\xff", bytes(100)):
+        yield "bytes follow", text(EXAMPLE + more, b"plain", [b"24", b"-10"])
+    reading_out = reader.pack(4, 1, [], [0])
+    for bit in range(6):
+        yield "padding", text(reading_out[:-1] + bytes([1 << bit]), b"plain", [b"24"])
+    for word in WORDS:
+        yield "formula of no bytes", text(b"", word, [])
+
+
+def counts():
+    """A wrong number of reading lines, up to what fits; and numbers of them at the limits."""
+    for word in WORDS:
+        for count in (0, 1, 3, 16, 17, 18, 100, 500):
+            yield f"{count} readings for two inputs", text(EXAMPLE, word, [READING[word]] * count)
+        yield "longest formula", text(longest(), word, [READING[word]] * 16)
+    yield "too many readings for a refused formula", text(EXAMPLE[:-1], b"plain", [b"1"] * 40)
+    yield "no inputs, no readings", text(reader.pack(4, 0, [(0, -5)], [0]), b"admit", [])
+
+
+def sizes():
+    for number in NUMBERS:
+        yield "one plain reading", text(reader.pack(4, 1, [(1, 0)], [1, 0]), b"plain", [number])
+        yield "a centre", text(EXAMPLE, b"ball", [number + b" 0", b"1 0"])
+        yield "a margin", text(EXAMPLE, b"ball", [b"1 0", b"1 " + number])
+        yield "a stray", text(EXAMPLE, b"admit", [b"1 0 0", b"1 " + number + b" 0"])
+    for reading in (b"2147483646 1", b"2147483646 2", b"-2147483646 1", b"-2147483646 2", b"0 2147483647", b"0 -1"):
+        yield "reach of a ball", text(reader.pack(0, 1, [], [0]), b"ball", [reading])
+    for reading in (b"2147483645 1 1", b"2147483645 2 1", b"-2147483645 1 2", b"0 0 2147483647", b"5 -1 0", b"5 0 -1"):
+        yield "reach of a matryoshka", text(reader.pack(0, 1, [], [0]), b"admit", [reading])
+    for numbers in ((b"2147483647", b"-1"), (b"2147483647", b"1"), (b"-2147483647", b"-1")):
+        yield "sum at the limit", text(reader.pack(4, 2, [(2, 0, 1)], [2]), b"plain", numbers)
+    for reading in (b"0 0", b"0 1"):
+        yield "sum of balls at the limit", text(reader.pack(0, 2, [(2, 0, 1)], [2]), b"ball", [b"2147483646 1", reading])
+
+
+def all_inputs(seed=1):
+    yield from examples()
+    yield from random_runs(random.Random(seed))
+    for some in (refused_formulas, counts, sizes, malformed):
+        yield from some()
