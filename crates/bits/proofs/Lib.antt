@@ -1,4 +1,5 @@
 -- The laws of bits, one subject a file.
 pub mod Digits
 pub mod Gather
+pub mod Ends
 pub mod Take

@@ -1,13 +1,13 @@
 -- What the code's answer to taking a field stands for, over the bytes that it reads.
 use mathlib.Core.Path.{_≡_}
 use mathlib.Core.List.{List}
-use Prim.Native.Nat.{ℕ, _+_, _^_, _<_}
-use lib.ListN.{drop}
+use Prim.Native.Nat.{ℕ, _+_, _-_, _/_, _%_, _^_, _≤_, _<_}
+use lib.ListN.{length, take, drop}
 use Rattle.rules.specs.Answer.{Answer, value, refused}
 use Rattle.bits.specs.declared.Cursor.{Cursor}
 use Rattle.bits.specs.declared.Field.{Field}
 use Rattle.bits.specs.declared.Field.the-variants.{Got, Ended}
-use Rattle.bits.specs.Bits.{bits}
+use Rattle.bits.specs.Bits.{bits, number}
 use Rattle.bits.specs.Reader.{Read, ended}
 
 -- the bits that a cursor has before it
@@ -22,3 +22,13 @@ field-answer s Ended = refused ended
 abbrev pub Advanced : Cursor → ℕ → Field → Type 0
 Advanced c w (Got n d) = (d .at ≡ c .at + w) × (n < 2 ^ w)
 Advanced c w Ended = Unit {0}
+
+-- x has the first of these bits on top: a field that starts o bits on and ends within 57 is cut out of x by its place
+abbrev pub Ahead : List ℕ → ℕ → Type 0
+Ahead bs x = (o w : ℕ) → 1 ≤ w → o + w ≤ 57 → o + w ≤ length bs → x / 2 ^ (64 - (o + w)) % 2 ^ w ≡ number (take w (drop o bs))
+
+-- what is ahead of `start`, which is x, has the w bits from c on
+pub record Covers (s : List ℕ) (start : Cursor) (x : ℕ) (c : Cursor) (w : ℕ) : Type 0 where
+  pub from : start .at ≤ c .at
+  pub to : c .at + w ≤ start .at + 57
+  pub ahead : Ahead (before s start) x

@@ -3,6 +3,7 @@ pub mod FieldIn
 pub mod InTurn
 pub mod Headings
 pub mod Instructions
+pub mod Inside
 pub mod Several
 pub mod Paddings
 pub mod Checks
@@ -10,4 +11,3 @@ pub mod Exactly
 pub mod WellFormed
 pub mod Outcomes
 pub mod Shapes
-pub mod Windows

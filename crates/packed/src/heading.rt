@@ -24,23 +24,25 @@ fn refused(t: Tested) -> HeaderRead
 pub fn read(s: &[u8]) -> HeaderRead
     ensures { λ r. ⌜ (header-answer (now (s .entry)) r ≡ read header (bits (now (s .entry)))) × AfterHeader r ⌝ }
 {
-    let version = field_in(s, Cursor { at: 0 }, 7, 1, 2, Refusal::Version);
+    let start = Cursor { at: 0 };
+    let x = bits::ahead(s, start);
+    let version = field_in(s, x, start, start, 7, 1, 2, Refusal::Version);
     let Tested::Got(_, c1) = version else {
         return refused(version);
     };
-    let scale = field_in(s, c1, 5, 0, 31, Refusal::Scale);
+    let scale = field_in(s, x, start, c1, 5, 0, 31, Refusal::Scale);
     let Tested::Got(f, c2) = scale else {
         return refused(scale);
     };
-    let inputs = field_in(s, c2, 5, 0, 17, Refusal::Count);
+    let inputs = field_in(s, x, start, c2, 5, 0, 17, Refusal::Count);
     let Tested::Got(m, c3) = inputs else {
         return refused(inputs);
     };
-    let instructions = field_in(s, c3, 10, 0, 513, Refusal::Count);
+    let instructions = field_in(s, x, start, c3, 10, 0, 513, Refusal::Count);
     let Tested::Got(l, c4) = instructions else {
         return refused(instructions);
     };
-    let outputs = field_in(s, c4, 5, 1, 17, Refusal::Count);
+    let outputs = field_in(s, x, start, c4, 5, 1, 17, Refusal::Count);
     let Tested::Got(n, c5) = outputs else {
         return refused(outputs);
     };

@@ -46,7 +46,16 @@ pub fn pass_outputs(s: &[u8], c: Cursor, below: usize, count: usize) -> Passed
         if k == count {
             break Passed::At(at);
         }
-        match field_in(s, at, 10, 0, below as u64, Refusal::Operand) {
+        match field_in(
+            s,
+            bits::ahead(s, at),
+            at,
+            at,
+            10,
+            0,
+            below as u64,
+            Refusal::Operand,
+        ) {
             Tested::Refused(r) => break Passed::Refused(r),
             Tested::Got(_, next) => {
                 at = next;

@@ -1,13 +1,12 @@
 -- Values gathered one by one to the front of a list: none yet, one more, all, or nothing of the kind. Assumes nothing.
-use mathlib.Core.Path.{_≡_, refl, sym, _∙_, ap, ap₂, subst}
+use mathlib.Core.Path.{_≡_, refl, sym, _∙_, ap, subst}
 use mathlib.Core.List.{List, [], _∷_, _++_, append-nil}
 use mathlib.Core.Option.{Option, none, some}
-use Prim.Native.Nat.{ℕ, zero, suc, _+_, _≤_, _<_}
+use Prim.Native.Nat.{ℕ, _+_, _≤_, _<_}
 use native.Mathlib.Numerals.{add-one}
 use native.Mathlib.Omega.{arith}
 use lib.ListN.{length, take, drop, set, length-set, take-append-drop}
 use lib.Seq.{length-take-le, append-snoc, take-suc-set, drop-set-lt, drop-drop}
-use Rattle.lists.specs.Over.{over}
 use Rattle.parsing.specs.declared.Gathered.the-variants.{Got}
 use Rattle.parsing.specs.Lines.{then}
 use Rattle.parsing.specs.Answers.{Gathers}

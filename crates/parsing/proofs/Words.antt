@@ -2,13 +2,13 @@
 use mathlib.Core.Path.{_≡_, refl, sym, _∙_, ap, ap₂, subst}
 use mathlib.Core.Bool.{Bool, true, false, _&&_, cond}
 use mathlib.Core.List.{List, [], _∷_}
-use mathlib.Core.Option.{Option, none, some}
+use mathlib.Core.Option.{none, some}
 use Prim.Native.Nat.{ℕ}
 use native.Mathlib.Omega.{arith}
 use borrow.Author.Tests.{eq-eqb, eqb-true}
 use lib.Dec.{eqb}
 use Rattle.readings.proofs.Fitting.{both}
-use Rattle.parsing.specs.Word.{Job, plain, ball, admit, spelt, same-bytes, job-named}
+use Rattle.parsing.specs.Word.{plain, ball, admit, spelt, same-bytes, job-named}
 
 false-true : {A : Type 0} → false ≡ true → A
 false-true e = absurd (let z : _≡_ {A = ℕ} 0 1 = cc in omega arith)

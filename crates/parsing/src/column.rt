@@ -1,5 +1,4 @@
 // One number of each reading line.
-ghost use mathlib.Core.Path.{_≡_};
 ghost use Prim.Native.Nat.{_+_, _≤_, _<_};
 ghost use lib.ListN.{length};
 ghost use Rattle.parsing.specs.Rows.{column-of};

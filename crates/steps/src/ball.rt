@@ -1,6 +1,6 @@
 // The instructions on balls.
 ghost use mathlib.Core.Path.{_≡_};
-ghost use Prim.Native.Nat.{ℕ, _≤_};
+ghost use Prim.Native.Nat.{ℕ, _^_, _≤_, _<_};
 ghost use Rattle.rules.specs.Numbers.{top-scale};
 ghost use Rattle.rules.specs.Values.{IsBall, ball-reach};
 ghost use Rattle.rules.specs.Operation.{Operation};
@@ -11,11 +11,12 @@ use rules::Ball;
 use rules::BallStep;
 
 // b, or refusal 11 where its reach is over the limit.
-pub fn keep(b: Ball) -> BallStep
+fn keep(b: Ball) -> BallStep
+    requires { ⌜ b .margin < 2 ^ 63 ⌝ }
     ensures { λ r. ⌜ ball-answer r ≡ within-reach ball-reach b ⌝ }
 {
     let margin = b.margin;
-    if rounding::within(whole::magnitude(b.centre), 0, margin) {
+    if rounding::sum_within(whole::magnitude(b.centre), 0, margin) {
         BallStep::Value(b)
     } else {
         BallStep::OutOfReach

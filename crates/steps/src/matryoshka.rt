@@ -1,6 +1,6 @@
 // The instructions on matryoshki.
 ghost use mathlib.Core.Path.{_≡_};
-ghost use Prim.Native.Nat.{ℕ, _≤_};
+ghost use Prim.Native.Nat.{ℕ, _+_, _^_, _≤_, _<_};
 ghost use Rattle.rules.specs.Numbers.{top-scale};
 ghost use Rattle.rules.specs.Values.{IsMatryoshka, matryoshka-reach};
 ghost use Rattle.rules.specs.Operation.{Operation};
@@ -11,12 +11,13 @@ use rules::Matryoshka;
 use rules::MatryoshkaStep;
 
 // m, or refusal 11 where its reach is over the limit.
-pub fn keep(m: Matryoshka) -> MatryoshkaStep
+fn keep(m: Matryoshka) -> MatryoshkaStep
+    requires { ⌜ m .stray + m .margin < 2 ^ 63 ⌝ }
     ensures { λ r. ⌜ matryoshka-answer r ≡ within-reach matryoshka-reach m ⌝ }
 {
     let stray = m.stray;
     let margin = m.margin;
-    if rounding::within(whole::magnitude(m.middle), stray, margin) {
+    if rounding::sum_within(whole::magnitude(m.middle), stray, margin) {
         MatryoshkaStep::Value(m)
     } else {
         MatryoshkaStep::OutOfReach

@@ -10,7 +10,7 @@ use crate::rounding;
 use rules::PlainStep;
 
 // x, or refusal 11 where |x| is over the limit.
-pub fn keep(x: i64) -> PlainStep
+fn keep(x: i64) -> PlainStep
     ensures { λ r. ⌜ plain-answer r ≡ within-reach plain-reach x ⌝ }
 {
     if rounding::within(whole::magnitude(x), 0, 0) {

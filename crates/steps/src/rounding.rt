@@ -1,6 +1,6 @@
 // Round and Up: each adds a part of a unit, then drops what is below one.
 ghost use mathlib.Core.Path.{_≡_};
-ghost use Prim.Native.Nat.{_+_, _-_, _*_, _/_, _^_, _≤_};
+ghost use Prim.Native.Nat.{_+_, _-_, _*_, _/_, _^_, _≤_, _<_};
 ghost use lib.Dec.{leb};
 ghost use lib.IntN.{pos, natAbs, _-ℤ_, _*ℤ_};
 ghost use Rattle.rules.specs.Numbers.{M, Q, h, top-scale, Round, Up};
@@ -19,6 +19,14 @@ pub fn within(size: u64, stray: u64, margin: u64) -> bool
         return false;
     }
     margin <= LIMIT - size - stray
+}
+
+// The same in one test, where the sum fits.
+pub fn sum_within(size: u64, stray: u64, margin: u64) -> bool
+    requires { ⌜ size + stray + margin < 2 ^ 64 ⌝ }
+    ensures { λ r. ⌜ r ≡ leb (size + stray + margin) M ⌝ }
+{
+    size + stray + margin <= LIMIT
 }
 
 // Q, halved so many times, less `less`.

@@ -4,8 +4,8 @@ use mathlib.Core.List.{List, [], _∷_, _++_}
 use Prim.Native.Nat.{ℕ, _≤_}
 use native.Mathlib.Omega.{arith}
 use lib.ListN.{length, drop, length-append, length-drop}
-use Rattle.formulas.specs.Job.{Result, refused-first, stopped-at, done, said, outputs-of}
 use Rattle.lists.specs.Over.{over}
+use Rattle.formulas.specs.Job.{Result, refused-first, stopped-at, done, said, outputs-of}
 use Rattle.printing.specs.Decimal.{decimal}
 use Rattle.printing.specs.Lines.{listed}
 use Rattle.printing.proofs.Digits.{decimal-short}

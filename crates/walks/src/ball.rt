@@ -13,8 +13,9 @@ ghost use Rattle.walks.specs.Walks.{All, Program};
 ghost use Rattle.walks.specs.Lists.{balls, BallWalked};
 use crate::Walked;
 use bits::Cursor;
+use bits::ahead;
 use packed::Instruction;
-use packed::walking::decode;
+use packed::walking::decode_ahead;
 use rules::Ball;
 use rules::BallStep;
 
@@ -72,7 +73,7 @@ pub fn walk(
             break Walked::Finished(at);
         }
         let made = inputs + k;
-        let d = decode(s, at);
+        let d = decode_ahead(s, ahead(s, at), at);
         let i = d.instruction;
         let next = d.next;
         match step(scale, i, centres, margins, made) {

@@ -12,8 +12,9 @@ ghost use Rattle.formulas.specs.Run.{with-values};
 ghost use Rattle.walks.specs.Walks.{All, Program, PlainWalked};
 use crate::Walked;
 use bits::Cursor;
+use bits::ahead;
 use packed::Instruction;
-use packed::walking::decode;
+use packed::walking::decode_ahead;
 use rules::PlainStep;
 
 // The value that an operand names, of the first `made`.
@@ -67,7 +68,7 @@ pub fn walk(
             break Walked::Finished(at);
         }
         let made = inputs + k;
-        let d = decode(s, at);
+        let d = decode_ahead(s, ahead(s, at), at);
         let i = d.instruction;
         let next = d.next;
         match step(scale, i, work, made) {

@@ -1,7 +1,7 @@
 -- `main` meets its contract. Assumes nothing.
 use mathlib.Core.Path.{sym}
-use lib.Seq.{length-take-le}
 use borrow.Author.Needs.{needs}
+use lib.Seq.{length-take-le}
 use Rattle.margins.proofs.main.Statement.{statement}
 use Rattle.margins.proofs.main.Tie as tie
 

@@ -2,11 +2,11 @@
 use mathlib.Core.Path.{sym, _∙_, ap}
 use Prim.Native.Nat.{ℕ, _≤_}
 use native.Mathlib.Omega.{arith}
+use borrow.Author.Needs.{needs}
 use Rattle.jobs.specs.declared.Reply.{Reply}
 use Rattle.jobs.specs.Jobs.{reply-said}
 use Rattle.doors.specs.declared.MarginsReply.{MarginsReply}
 use Rattle.doors.specs.Doors.{margins-reply}
-use borrow.Author.Needs.{needs}
 use Rattle.doors.proofs.reply.replied.Statement.{statement}
 use Rattle.doors.proofs.reply.replied.Tie as tie
 

@@ -1,5 +1,6 @@
 -- `read` meets its contract: each field's refusal is the header's, and five fields make a header. Assumes nothing.
 use mathlib.Core.Path.{sym, _∙_, ap, subst}
+use Prim.Native.Nat.{zero-le}
 use native.Mathlib.Omega.{arith}
 use borrow.Author.Needs.{needs}
 use lib.Dec.{lit≤}
@@ -9,6 +10,9 @@ use Rattle.packed.proofs.FieldIn.{by-case}
 use Rattle.packed.proofs.Headings.{header-refused-1, header-refused-2, header-refused-3, header-refused-4, header-refused-5, header-got}
 use Rattle.packed.proofs.heading.read.Statement.{statement}
 use Rattle.packed.proofs.heading.read.Tie as tie
+
+ahead-requires : tie.Need-ahead-requires
+ahead-requires c κs = search needs
 
 field-in-requires : tie.Need-field-in-requires
 field-in-requires c κs = search needs
@@ -24,7 +28,7 @@ refused-requires c κs = search needs
 
 returns : tie.Need-returns
 returns c =
-    let s = c .before .before .before .before .before .args .s .now in
+    let s = c .before .before .before .before .before .before .args .s .now in
     let t = c .before .enum-told .given in
     let f = c .before .before .before .field-in .ensures in
     let r = c .refused .ensures ∙ ap header-refused (t .1) in (
@@ -35,7 +39,7 @@ returns c =
 field-in-requires-2 : tie.Need-field-in-requires-2
 field-in-requires-2 c κs =
     let p1 = rw (c .before .version .given .1) at (c .before .before .before .field-in .ensures .1) in
-    (lit≤ tt, lit≤ tt, omega (arith, p1 .2))
+    (lit≤ tt, lit≤ tt, omega (arith, p1 .2), record { from = zero-le; to = omega (arith, p1 .2); ahead = c .before .before .before .before .ahead .ensures })
 
 enum-known-scale : tie.Need-enum-known-scale
 enum-known-scale c = search needs
@@ -48,7 +52,7 @@ refused-requires-2 c κs = search needs
 
 returns-2 : tie.Need-returns-2
 returns-2 c =
-    let s = c .before .before .before .before .before .before .before .before .before .args .s .now in
+    let s = c .before .before .before .before .before .before .before .before .before .before .args .s .now in
     let k1 = c .before .before .before .before .before .version .given in
     let f1 = c .before .before .before .before .before .before .before .field-in .ensures in
     let e1 = by-case (tested-answer s) (f1 .0) (k1 .1) in
@@ -63,7 +67,7 @@ field-in-requires-3 : tie.Need-field-in-requires-3
 field-in-requires-3 c κs =
     let p1 = rw (c .before .before .before .before .before .version .given .1) at (c .before .before .before .before .before .before .before .field-in .ensures .1) in
     let p2 = rw (c .before .scale .given .1) at (c .before .before .before .field-in2 .ensures .1) in
-    (lit≤ tt, lit≤ tt, omega (arith, p1 .2, p2 .2))
+    (lit≤ tt, lit≤ tt, omega (arith, p1 .2, p2 .2), record { from = zero-le; to = omega (arith, p1 .2, p2 .2); ahead = c .before .before .before .before .before .before .before .before .ahead .ensures })
 
 enum-known-inputs : tie.Need-enum-known-inputs
 enum-known-inputs c = search needs
@@ -76,7 +80,7 @@ refused-requires-3 c κs = search needs
 
 returns-3 : tie.Need-returns-3
 returns-3 c =
-    let s = c .before .before .before .before .before .before .before .before .before .before .before .before .before .args .s .now in
+    let s = c .before .before .before .before .before .before .before .before .before .before .before .before .before .before .args .s .now in
     let k1 = c .before .before .before .before .before .before .before .before .before .version .given in
     let f1 = c .before .before .before .before .before .before .before .before .before .before .before .field-in .ensures in
     let e1 = by-case (tested-answer s) (f1 .0) (k1 .1) in
@@ -95,7 +99,7 @@ field-in-requires-4 c κs =
     let p1 = rw (c .before .before .before .before .before .before .before .before .before .version .given .1) at (c .before .before .before .before .before .before .before .before .before .before .before .field-in .ensures .1) in
     let p2 = rw (c .before .before .before .before .before .scale .given .1) at (c .before .before .before .before .before .before .before .field-in2 .ensures .1) in
     let p3 = rw (c .before .inputs .given .1) at (c .before .before .before .field-in3 .ensures .1) in
-    (lit≤ tt, lit≤ tt, omega (arith, p1 .2, p2 .2, p3 .2))
+    (lit≤ tt, lit≤ tt, omega (arith, p1 .2, p2 .2, p3 .2), record { from = zero-le; to = omega (arith, p1 .2, p2 .2, p3 .2); ahead = c .before .before .before .before .before .before .before .before .before .before .before .before .ahead .ensures })
 
 enum-known-instructions : tie.Need-enum-known-instructions
 enum-known-instructions c = search needs
@@ -108,7 +112,7 @@ refused-requires-4 c κs = search needs
 
 returns-4 : tie.Need-returns-4
 returns-4 c =
-    let s = c .before .before .before .before .before .before .before .before .before .before .before .before .before .before .before .before .before .args .s .now in
+    let s = c .before .before .before .before .before .before .before .before .before .before .before .before .before .before .before .before .before .before .args .s .now in
     let k1 = c .before .before .before .before .before .before .before .before .before .before .before .before .before .version .given in
     let f1 = c .before .before .before .before .before .before .before .before .before .before .before .before .before .before .before .field-in .ensures in
     let e1 = by-case (tested-answer s) (f1 .0) (k1 .1) in
@@ -131,7 +135,7 @@ field-in-requires-5 c κs =
     let p2 = rw (c .before .before .before .before .before .before .before .before .before .scale .given .1) at (c .before .before .before .before .before .before .before .before .before .before .before .field-in2 .ensures .1) in
     let p3 = rw (c .before .before .before .before .before .inputs .given .1) at (c .before .before .before .before .before .before .before .field-in3 .ensures .1) in
     let p4 = rw (c .before .instructions .given .1) at (c .before .before .before .field-in4 .ensures .1) in
-    (lit≤ tt, lit≤ tt, omega (arith, p1 .2, p2 .2, p3 .2, p4 .2))
+    (lit≤ tt, lit≤ tt, omega (arith, p1 .2, p2 .2, p3 .2, p4 .2), record { from = zero-le; to = omega (arith, p1 .2, p2 .2, p3 .2, p4 .2); ahead = c .before .before .before .before .before .before .before .before .before .before .before .before .before .before .before .before .ahead .ensures })
 
 enum-known-outputs : tie.Need-enum-known-outputs
 enum-known-outputs c = search needs
@@ -144,7 +148,7 @@ refused-requires-5 c κs = search needs
 
 returns-5 : tie.Need-returns-5
 returns-5 c =
-    let s = c .before .before .before .before .before .before .before .before .before .before .before .before .before .before .before .before .before .before .before .before .before .args .s .now in
+    let s = c .before .before .before .before .before .before .before .before .before .before .before .before .before .before .before .before .before .before .before .before .before .before .args .s .now in
     let k1 = c .before .before .before .before .before .before .before .before .before .before .before .before .before .before .before .before .before .version .given in
     let f1 = c .before .before .before .before .before .before .before .before .before .before .before .before .before .before .before .before .before .before .before .field-in .ensures in
     let e1 = by-case (tested-answer s) (f1 .0) (k1 .1) in
@@ -164,14 +168,14 @@ returns-5 c =
       subst AfterHeader (sym r) tt,
     )
 
-cast-t18 : tie.Need-cast-t18
-cast-t18 c =
+cast-t19 : tie.Need-cast-t19
+cast-t19 c =
     let p = rw (c .before .before .before .before .before .before .before .before .before .before .before .before .before .scale .given .1) at (c .before .before .before .before .before .before .before .before .before .before .before .before .before .before .before .field-in2 .ensures .1) in
     record { fits = omega (arith, p .1) }
 
 returns-6 : tie.Need-returns-6
 returns-6 c =
-    let s = c .before .before .before .before .before .before .before .before .before .before .before .before .before .before .before .before .before .before .before .before .before .args .s .now in
+    let s = c .before .before .before .before .before .before .before .before .before .before .before .before .before .before .before .before .before .before .before .before .before .before .args .s .now in
     let k1 = c .before .before .before .before .before .before .before .before .before .before .before .before .before .before .before .before .before .version .given in
     let f1 = c .before .before .before .before .before .before .before .before .before .before .before .before .before .before .before .before .before .before .before .field-in .ensures in
     let e1 = by-case (tested-answer s) (f1 .0) (k1 .1) in
@@ -210,6 +214,7 @@ pub read-spec : {M : Type 1} → statement M
 read-spec =
     tie.close
     (tie.spec
+    ahead-requires
     field-in-requires
     enum-known-version
     enum-told
@@ -235,5 +240,5 @@ read-spec =
     enum-told-5
     refused-requires-5
     returns-5
-    cast-t18
+    cast-t19
     returns-6)

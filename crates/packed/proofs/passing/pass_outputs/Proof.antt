@@ -1,6 +1,7 @@
 -- `pass_outputs` meets its contract. The loop's invariant: what is left to read from here is what was to be read at the start. Assumes nothing.
 use mathlib.Core.Path.{_≡_, refl, sym, _∙_}
 use Prim.Native.Nat.{_+_, _*_, _-_, _≤_}
+use native.Mathlib.Nat.{le-refl}
 use native.Mathlib.Omega.{arith}
 use borrow.Author.Needs.{needs}
 use Rattle.bits.specs.Fields.{before}
@@ -22,8 +23,13 @@ abbrev μ-loop : tie.MeasureT-loop
 loop-holds : tie.Need-loop-holds Inv-loop μ-loop
 loop-holds c = (omega arith, refl, omega arith)
 
+ahead-requires : tie.Need-ahead-requires Inv-loop μ-loop
+ahead-requires c κs = omega (arith, c .before .before .before .pre .0, c .before .before .before .pre .1, c .before .loop .inv .0, c .before .loop .inv .2)
+
 field-in-requires : tie.Need-field-in-requires Inv-loop μ-loop
-field-in-requires c κs = (lit≤ tt, lit≤ tt, omega (arith, c .before .before .before .pre .0, c .before .before .before .pre .1, c .before .loop .inv .0, c .before .loop .inv .2))
+field-in-requires c κs =
+    let at = c .before .before .loop .at .at in
+    (lit≤ tt, lit≤ tt, omega (arith, c .before .before .before .before .pre .0, c .before .before .before .before .pre .1, c .before .before .loop .inv .0, c .before .before .loop .inv .2), record { from = le-refl at; to = omega arith; ahead = c .ahead .ensures })
 
 enum-known-r : tie.Need-enum-known-r Inv-loop μ-loop
 enum-known-r c = search needs
@@ -32,22 +38,22 @@ enum-known-next : tie.Need-enum-known-next Inv-loop μ-loop
 enum-known-next c = search needs
 
 add-k : tie.Need-add-k Inv-loop μ-loop
-add-k c = record { fits = omega (arith, c .before .before .before .before .before .loop .inv .0, c .before .before .before .before .before .before .before .pre .1) }
+add-k c = record { fits = omega (arith, c .before .before .before .before .before .before .loop .inv .0, c .before .before .before .before .before .before .before .before .pre .1) }
 
 loop-less : tie.Need-loop-less Inv-loop μ-loop
 loop-less c =
-    let l = less (c .before .before .before .before .before .loop .inv .0) (c .before .before .before .before .if1 .left) in
+    let l = less (c .before .before .before .before .before .before .loop .inv .0) (c .before .before .before .before .before .if1 .left) in
     omega arith
 
 loop-again : tie.Need-loop-again Inv-loop μ-loop
 loop-again c =
-    let a = c .before .before .before .before .before .before .before .args in
-    let at = c .before .before .before .before .before .loop .at in
-    let k = c .before .before .before .before .before .loop .k in
-    let i = c .before .before .before .before .before .loop .inv in
+    let a = c .before .before .before .before .before .before .before .before .args in
+    let at = c .before .before .before .before .before .before .loop .at in
+    let k = c .before .before .before .before .before .before .loop .k in
+    let i = c .before .before .before .before .before .before .loop .inv in
     let g = c .before .next .given in
     let f = c .before .before .before .field-in .ensures in
-    let l = less (i .0) (c .before .before .before .before .if1 .left) in
+    let l = less (i .0) (c .before .before .before .before .before .if1 .left) in
     let p = rw (g .1) at (f .1) in (
       omega arith,
       sym (rest-got (λ j. item (operand (a .below))) (a .count) 0 k (before (a .s .now) at) l (read-item (operand (a .below)) (before (a .s .now) at) ∙ by-case (tested-answer (a .s .now)) (f .0) (g .1))) ∙ i .1,
@@ -65,12 +71,12 @@ returns c =
 
 returns-2 : tie.Need-returns-2 Inv-loop μ-loop
 returns-2 c =
-    let a = c .before .before .before .before .before .before .before .args in
-    let at = c .before .before .before .before .before .loop .at in
-    let i = c .before .before .before .before .before .loop .inv in
-    let l = less (i .0) (c .before .before .before .before .if1 .left) in
+    let a = c .before .before .before .before .before .before .before .before .args in
+    let at = c .before .before .before .before .before .before .loop .at in
+    let i = c .before .before .before .before .before .before .loop .inv in
+    let l = less (i .0) (c .before .before .before .before .before .if1 .left) in
     let e = read-item (operand (a .below)) (before (a .s .now) at) ∙ by-case (tested-answer (a .s .now)) (c .before .before .before .field-in .ensures .0) (c .before .r .given .1) in
-    (sym (rest-refused (λ j. item (operand (a .below))) (a .count) 0 (c .before .before .before .before .before .loop .k) (before (a .s .now) at) l e) ∙ i .1 ∙ rest-all (λ j. item (operand (a .below))) (a .count) 0 (before (a .s .now) (a .c)), tt)
+    (sym (rest-refused (λ j. item (operand (a .below))) (a .count) 0 (c .before .before .before .before .before .before .loop .k) (before (a .s .now) at) l e) ∙ i .1 ∙ rest-all (λ j. item (operand (a .below))) (a .count) 0 (before (a .s .now) (a .c)), tt)
 
 pub pass-outputs-spec : {M : Type 1} → statement M
-pass-outputs-spec = tie.close (tie.spec Inv-loop μ-loop loop-holds field-in-requires enum-known-r enum-known-next add-k loop-less loop-again returns returns-2)
+pass-outputs-spec = tie.close (tie.spec Inv-loop μ-loop loop-holds ahead-requires field-in-requires enum-known-r enum-known-next add-k loop-less loop-again returns returns-2)

@@ -22,7 +22,8 @@ enum-known-i c = search needs
 field-in-requires-2 : tie.Need-field-in-requires-2
 field-in-requires-2 c κs =
     let p = rw (c .before .i .given .1) at (c .before .before .before .field-in .ensures .1) in
-    (lit≤ tt, lit≤ tt, omega (arith, p .2, c .before .before .before .before .before .pre))
+    let q = c .before .before .before .before .before .pre in
+    (lit≤ tt, lit≤ tt, omega (arith, p .2, q .0), record { from = omega (arith, p .2, q .1 .from); to = omega (arith, p .2, q .1 .to); ahead = q .1 .ahead })
 
 enum-known-r-2 : tie.Need-enum-known-r-2
 enum-known-r-2 c = search needs

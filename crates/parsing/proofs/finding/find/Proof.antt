@@ -1,6 +1,6 @@
 -- `find` meets its contract. Assumes nothing.
-use borrow.Author.Needs.{needs}
 use Prim.Native.Nat.{_-_}
+use borrow.Author.Needs.{needs}
 use lib.ListN.{length}
 use Rattle.parsing.proofs.Cuts.{Searched, searched-none, searched-one, searched-found, searched-all}
 use Rattle.parsing.proofs.finding.find.Statement.{statement}

@@ -1,9 +1,9 @@
 -- `byte` meets its contract. Assumes nothing.
 use native.Mathlib.Omega.{arith}
+use borrow.Author.Needs.{needs}
 use Rattle.packed.proofs.FieldIn.{by-case}
 use Rattle.parsing.specs.Answers.{digit-answer}
 use Rattle.parsing.proofs.Hexes.{hex-digit-small, hex-byte-none, hex-byte-half, hex-byte-is}
-use borrow.Author.Needs.{needs}
 use Rattle.parsing.proofs.hex.byte.Statement.{statement}
 use Rattle.parsing.proofs.hex.byte.Tie as tie
 

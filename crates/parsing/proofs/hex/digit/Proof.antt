@@ -1,8 +1,8 @@
 -- `digit` meets its contract. Assumes nothing.
 use native.Mathlib.Omega.{arith}
+use borrow.Author.Needs.{needs}
 use Rattle.parsing.proofs.Ranges.{in-range, below-range, above-range}
 use Rattle.parsing.proofs.Hexes.{hex-digit-is, hex-digit-first}
-use borrow.Author.Needs.{needs}
 use Rattle.parsing.proofs.hex.digit.Statement.{statement}
 use Rattle.parsing.proofs.hex.digit.Tie as tie
 

@@ -1,8 +1,8 @@
 -- `read` meets its contract. Assumes nothing.
-use borrow.Author.Needs.{needs}
 use mathlib.Core.Path.{_≡_, refl}
 use Prim.Native.Nat.{_+_, _-_, _≤_, _<_}
 use native.Mathlib.Omega.{arith}
+use borrow.Author.Needs.{needs}
 use lib.ListN.{length, drop}
 use Rattle.packed.proofs.FieldIn.{by-case}
 use Rattle.parsing.specs.Hex.{hex}

@@ -3,6 +3,7 @@ use mathlib.Core.Path.{sym, _∙_, ap}
 use mathlib.Core.Option.{some}
 use Prim.Native.Nat.{_^_, _<_}
 use native.Mathlib.Omega.{arith}
+use borrow.Author.Needs.{needs}
 use borrow.Rule.Slice.PartAt.{part-to-end}
 use mir.Syntax.{w64}
 use mir.ValLaws.{toZ-pos}
@@ -11,7 +12,6 @@ use Rattle.packed.proofs.FieldIn.{by-case}
 use Rattle.parsing.specs.Number.{digits}
 use Rattle.parsing.specs.Answers.{digits-answer}
 use Rattle.parsing.proofs.Signs.{number-empty, number-minus, number-bare, minus-fits, minus-is}
-use borrow.Author.Needs.{needs}
 use Rattle.parsing.proofs.numbers.read.Statement.{statement}
 use Rattle.parsing.proofs.numbers.read.Tie as tie
 

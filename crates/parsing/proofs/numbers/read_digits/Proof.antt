@@ -1,7 +1,7 @@
 -- `read_digits` meets its contract. Assumes nothing.
-use borrow.Author.Needs.{needs}
 use Prim.Native.Nat.{_-_}
 use native.Mathlib.Omega.{arith}
+use borrow.Author.Needs.{needs}
 use lib.ListN.{length}
 use Rattle.parsing.proofs.Decimals.{Counted, counted-none, too-short, too-long, counted-all, counted-small, too-low, too-high, room, counted-one}
 use Rattle.parsing.proofs.numbers.read_digits.Statement.{statement}

@@ -1,8 +1,12 @@
 -- `+read` meets its contract. Assumes nothing.
 use mathlib.Core.Path.{sym, _∙_, ap, ap₂}
+use mathlib.Core.List.{List}
+use Prim.Native.Nat.{ℕ, _+_, _-_, _<_}
 use native.Mathlib.Numerals.{add-one}
 use native.Mathlib.Omega.{arith}
 use borrow.Author.Needs.{needs}
+use borrow.Fn.Kinds.{In}
+use borrow.Fn.PlainCycle.{Measures, is, falls, and}
 use borrow.Rule.Slice.PartAt.{part-to-end}
 use lib.ListN.{length, drop}
 use lib.Seq.{length-take-le}
@@ -10,10 +14,6 @@ use Rattle.packed.proofs.FieldIn.{by-case}
 use Rattle.parsing.specs.Rows.{row, number-of}
 use Rattle.parsing.specs.Answers.{found-answer, chosen}
 use Rattle.parsing.proofs.Lines.{row-last, row-uncut, row-cut, row-more}
-use mathlib.Core.List.{List}
-use Prim.Native.Nat.{ℕ, _+_, _-_, _<_}
-use borrow.Fn.Kinds.{In}
-use borrow.Fn.PlainCycle.{Measures, is, falls, and}
 use Rattle.parsing.proofs.row.read.Reads as read
 use Rattle.parsing.proofs.row.read.Kinds as read-kinds
 use Rattle.parsing.proofs.row.+read.Lts-read as read-lts

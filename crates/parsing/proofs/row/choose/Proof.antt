@@ -1,8 +1,8 @@
 -- `choose` meets its contract. Assumes nothing.
 use mathlib.Core.Path.{ap}
+use borrow.Author.Needs.{needs}
 use Rattle.parsing.specs.Answers.{number-answer}
 use Rattle.parsing.proofs.Lines.{chosen-first, chosen-later}
-use borrow.Author.Needs.{needs}
 use Rattle.parsing.proofs.row.choose.Statement.{statement}
 use Rattle.parsing.proofs.row.choose.Tie as tie
 

@@ -1,8 +1,8 @@
 -- `read` meets its contract. Assumes nothing.
 use mathlib.Core.Path.{refl, _∙_}
+use borrow.Author.Needs.{needs}
 use Rattle.parsing.specs.Word.{plain, ball, admit, spelt}
 use Rattle.parsing.proofs.Words.{same-told, named-by}
-use borrow.Author.Needs.{needs}
 use Rattle.parsing.proofs.word.read.Statement.{statement}
 use Rattle.parsing.proofs.word.read.Tie as tie
 

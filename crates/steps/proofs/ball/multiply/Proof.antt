@@ -8,7 +8,7 @@ use Rattle.rules.specs.Numbers.{M, Q, Round, Up}
 use Rattle.rules.specs.Values.{ball-reach}
 use Rattle.rules.specs.Answer.{within-reach}
 use Rattle.rules.specs.Balls.{ball}
-use Rattle.steps.proofs.Parts.{half-bound}
+use Rattle.steps.proofs.Parts.{half-bound, up-size}
 use Rattle.steps.proofs.Linear.{centre-size}
 use Rattle.steps.proofs.Product.{kept, kept-size, kept-product, round-held}
 use Rattle.steps.proofs.ball.multiply.Statement.{statement}
@@ -57,7 +57,12 @@ up-requires c κs =
     (s .pre .0, omega (arith, c .before .spread .ensures .1, q .ensures .2, half-bound (s .pre .0)))
 
 keep-requires : tie.Need-keep-requires
-keep-requires c κs = search needs
+keep-requires c κs =
+    let s = c .before .before .before .before .before .before .before .before .before .before .before .before in
+    let q = c .before .before .before .before .before .before .before .before .before .product-with-loss in
+    let w = c .before .before .before .spread in
+    let l = up-size (w .result + q .result .lost) (s .pre .0) (omega (arith, w .ensures .1, q .ensures .2, half-bound (s .pre .0))) in
+    omega (arith, l, c .before .up .ensures)
 
 returns : tie.Need-returns
 returns c =

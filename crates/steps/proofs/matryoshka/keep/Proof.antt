@@ -5,6 +5,7 @@ use native.Mathlib.Omega.{arith}
 use borrow.Author.Needs.{needs}
 use borrow.Author.Tests.{leb-true, leb-false}
 use lib.IntN.{natAbs}
+use lib.Signed.{natAbs-le}
 use Rattle.rules.specs.Numbers.{M}
 use Rattle.rules.specs.Values.{matryoshka-reach}
 use Rattle.rules.proofs.Reach.{reach-accepts, reach-refuses}
@@ -15,8 +16,13 @@ use Rattle.steps.proofs.matryoshka.keep.Tie as tie
 magnitude-requires : tie.Need-magnitude-requires
 magnitude-requires c κs = search needs
 
-within-requires : tie.Need-within-requires
-within-requires c κs = search needs
+sum-within-requires : tie.Need-sum-within-requires
+sum-within-requires c κs =
+    let s = c .before .before in
+    let m = s .args .m in
+    let told = c .before .struct-told .given .0 .1 in
+    let e : c .magnitude .result ≡ natAbs (m .middle) = c .magnitude .ensures ∙ size-back (m .middle) told in
+    omega (arith, e, natAbs-le (m .middle) told, s .pre)
 
 returns : tie.Need-returns
 returns c =
@@ -24,7 +30,7 @@ returns c =
     let m = s .args .m in
     let n = c .before .before .magnitude in
     let e : n .result ≡ natAbs (m .middle) = n .ensures ∙ size-back (m .middle) (c .before .before .before .struct-told .given .0 .1) in
-    let t : n .result + m .stray + m .margin ≤ M = leb-true (n .result + m .stray + m .margin) M (sym (c .before .within .ensures) ∙ c .if1 .taken) in
+    let t : n .result + m .stray + m .margin ≤ M = leb-true (n .result + m .stray + m .margin) M (sym (c .before .sum-within .ensures) ∙ c .if1 .taken) in
     sym (reach-accepts matryoshka-reach m (omega arith))
 
 returns-2 : tie.Need-returns-2
@@ -33,8 +39,8 @@ returns-2 c =
     let m = s .args .m in
     let n = c .before .before .magnitude in
     let e : n .result ≡ natAbs (m .middle) = n .ensures ∙ size-back (m .middle) (c .before .before .before .struct-told .given .0 .1) in
-    let t : M < n .result + m .stray + m .margin = leb-false (n .result + m .stray + m .margin) M (sym (c .before .within .ensures) ∙ c .if1 .left) in
+    let t : M < n .result + m .stray + m .margin = leb-false (n .result + m .stray + m .margin) M (sym (c .before .sum-within .ensures) ∙ c .if1 .left) in
     sym (reach-refuses matryoshka-reach m (omega arith))
 
 pub keep-spec : {M : Type 1} → statement M
-keep-spec = tie.close (tie.spec magnitude-requires within-requires returns returns-2)
+keep-spec = tie.close (tie.spec magnitude-requires sum-within-requires returns returns-2)

@@ -8,7 +8,7 @@ use Rattle.rules.specs.Numbers.{Round, Up}
 use Rattle.rules.specs.Values.{matryoshka-reach}
 use Rattle.rules.specs.Answer.{within-reach}
 use Rattle.rules.specs.Matryoshki.{matryoshka}
-use Rattle.steps.proofs.Parts.{half-bound}
+use Rattle.steps.proofs.Parts.{half-bound, up-size}
 use Rattle.steps.proofs.Linear.{middle-size}
 use Rattle.steps.proofs.Product.{kept, kept-size, kept-product, round-held}
 use Rattle.steps.proofs.matryoshka.multiply.Statement.{statement}
@@ -86,7 +86,13 @@ up-requires-2 c κs =
     (s .pre .0, omega (arith, c .before .before .spread2 .ensures .1, c .half .ensures, half-bound (s .pre .0)))
 
 keep-requires : tie.Need-keep-requires
-keep-requires c κs = search needs
+keep-requires c κs =
+    let s = c .before .before .before .before .before .before .before .before .before .before .before .before .before .before .before in
+    let v = c .before .before .before .before .before .before .spread in
+    let w = c .before .before .before .spread2 in
+    let p = up-size (v .result) (s .pre .0) (omega (arith, v .ensures .1)) in
+    let q = up-size (w .result + c .before .half .result) (s .pre .0) (omega (arith, w .ensures .1, c .before .half .ensures, half-bound (s .pre .0))) in
+    omega (arith, p, q, c .before .before .up .ensures, c .up2 .ensures)
 
 returns : tie.Need-returns
 returns c =

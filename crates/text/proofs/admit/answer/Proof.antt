@@ -1,16 +1,16 @@
 -- `answer` meets its contract. Assumes nothing.
-use mathlib.Core.Path.{sym, _∙_, ap, ap₂}
+use mathlib.Core.Path.{sym, _∙_, ap}
+use mathlib.Core.List.{List}
+use borrow.Author.Needs.{needs}
+use lib.IntN.{ℤ}
 use lib.Seq.{length-take-le}
+use Rattle.jobs.specs.Jobs.{admit-job}
+use Rattle.parsing.specs.Word.{admit}
+use Rattle.printing.specs.Lines.{matryoshka-fields}
 use Rattle.printing.proofs.Again.{wrote-same}
 use Rattle.text.specs.Program.{if-rows, text-of, places, most-outputs}
 use Rattle.text.proofs.Told.{ap₃}
 use Rattle.text.proofs.Parts.{rows-told, column-told, no-rows}
-use mathlib.Core.List.{List}
-use lib.IntN.{ℤ}
-use Rattle.jobs.specs.Jobs.{admit-job}
-use Rattle.parsing.specs.Word.{admit}
-use Rattle.printing.specs.Lines.{matryoshka-fields}
-use borrow.Author.Needs.{needs}
 use Rattle.text.proofs.admit.answer.Statement.{statement}
 use Rattle.text.proofs.admit.answer.Tie as tie
 

@@ -1,18 +1,17 @@
 -- `tell` meets its contract. Assumes nothing.
-use mathlib.Core.Path.{sym, _∙_, ap, ap₂}
+use mathlib.Core.Path.{sym, _∙_, ap}
 use Prim.Native.Nat.{_≤_}
 use native.Mathlib.Omega.{arith}
-use lib.ListN.{length, take}
+use borrow.Author.Needs.{needs}
+use lib.ListN.{length, take, length-map}
 use Rattle.formulas.specs.Job.{outputs-of}
+use Rattle.walks.specs.Lists.{middles-of, strays-of, static-margins-of}
+use Rattle.jobs.specs.Jobs.{admit-job}
 use Rattle.jobs.proofs.Lent.{over-front}
+use Rattle.printing.specs.Lines.{matryoshka-fields}
 use Rattle.printing.proofs.Again.{wrote-then, wrote-same}
 use Rattle.text.specs.Program.{places, most-outputs, outcome-of}
 use Rattle.text.proofs.Told.{text-refused, text-done, done-many, ok-short, over-fits}
-use Rattle.jobs.specs.Jobs.{admit-job}
-use Rattle.printing.specs.Lines.{matryoshka-fields}
-use Rattle.walks.specs.Lists.{middles-of, strays-of, static-margins-of}
-use lib.ListN.{length-map}
-use borrow.Author.Needs.{needs}
 use Rattle.text.proofs.admit.tell.Statement.{statement}
 use Rattle.text.proofs.admit.tell.Tie as tie
 

@@ -1,11 +1,11 @@
 -- `by_job` meets its contract. Assumes nothing.
-use mathlib.Core.Path.{sym, _∙_, ap}
+use mathlib.Core.Path.{sym}
+use borrow.Author.Needs.{needs}
 use lib.Seq.{length-take-le}
 use Rattle.packed.proofs.FieldIn.{by-case}
 use Rattle.parsing.specs.Answers.{named-answer}
 use Rattle.printing.proofs.Again.{wrote-same}
 use Rattle.text.proofs.Parts.{parts-unhexed, parts-unnamed, parts-named}
-use borrow.Author.Needs.{needs}
 use Rattle.text.proofs.answering.by_job.Statement.{statement}
 use Rattle.text.proofs.answering.by_job.Tie as tie
 

@@ -3,13 +3,13 @@ use mathlib.Core.Path.{sym, _∙_, ap}
 use mathlib.Core.List.{List}
 use Prim.Native.Nat.{ℕ, _<_}
 use native.Mathlib.Omega.{arith}
+use borrow.Author.Needs.{needs}
 use lib.ListN.{length, take}
 use Rattle.packed.proofs.FieldIn.{by-case}
 use Rattle.parsing.specs.Answers.{found-answer}
 use Rattle.printing.proofs.Again.{wrote-same}
 use Rattle.text.specs.Program.{by-parts}
 use Rattle.text.proofs.Parts.{halves-unended, halves-parts, part-behind, part-before-long, part-behind-long}
-use borrow.Author.Needs.{needs}
 use Rattle.text.proofs.answering.by_word.Statement.{statement}
 use Rattle.text.proofs.answering.by_word.Tie as tie
 

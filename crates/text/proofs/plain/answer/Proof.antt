@@ -1,15 +1,15 @@
 -- `answer` meets its contract. Assumes nothing.
-use mathlib.Core.Path.{sym, _∙_, ap, ap₂}
-use lib.Seq.{length-take-le}
-use Rattle.printing.proofs.Again.{wrote-same}
-use Rattle.text.specs.Program.{if-rows, text-of, places, most-outputs}
-use Rattle.text.proofs.Parts.{rows-told, column-told, no-rows}
+use mathlib.Core.Path.{sym, _∙_, ap}
 use mathlib.Core.List.{List}
+use borrow.Author.Needs.{needs}
 use lib.IntN.{ℤ}
+use lib.Seq.{length-take-le}
 use Rattle.jobs.specs.Jobs.{plain-job}
 use Rattle.parsing.specs.Word.{plain}
 use Rattle.printing.specs.Lines.{plain-fields}
-use borrow.Author.Needs.{needs}
+use Rattle.printing.proofs.Again.{wrote-same}
+use Rattle.text.specs.Program.{if-rows, text-of, places, most-outputs}
+use Rattle.text.proofs.Parts.{rows-told, column-told, no-rows}
 use Rattle.text.proofs.plain.answer.Statement.{statement}
 use Rattle.text.proofs.plain.answer.Tie as tie
 

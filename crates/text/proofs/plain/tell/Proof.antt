@@ -2,6 +2,7 @@
 use mathlib.Core.Path.{sym, _∙_, ap}
 use Prim.Native.Nat.{_≤_}
 use native.Mathlib.Omega.{arith}
+use borrow.Author.Needs.{needs}
 use lib.ListN.{length, take}
 use Rattle.formulas.specs.Job.{outputs-of}
 use Rattle.jobs.specs.Jobs.{plain-job}
@@ -10,7 +11,6 @@ use Rattle.printing.specs.Lines.{plain-fields}
 use Rattle.printing.proofs.Again.{wrote-then, wrote-same}
 use Rattle.text.specs.Program.{places, most-outputs, outcome-of}
 use Rattle.text.proofs.Told.{text-refused, text-done, done-many, ok-short, over-fits}
-use borrow.Author.Needs.{needs}
 use Rattle.text.proofs.plain.tell.Statement.{statement}
 use Rattle.text.proofs.plain.tell.Tie as tie
 

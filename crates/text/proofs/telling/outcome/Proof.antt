@@ -1,11 +1,11 @@
 -- `outcome` meets its contract. Assumes nothing.
 use mathlib.Core.Path.{sym, _∙_, ap}
+use borrow.Author.Needs.{needs}
 use Rattle.jobs.specs.declared.Reply.{Reply}
 use Rattle.jobs.specs.Jobs.{reply-said}
 use Rattle.text.specs.declared.Outcome.{Outcome}
 use Rattle.text.specs.declared.Outcome.the-variants.{Refused}
 use Rattle.text.specs.Program.{outcome-of}
-use borrow.Author.Needs.{needs}
 use Rattle.text.proofs.telling.outcome.Statement.{statement}
 use Rattle.text.proofs.telling.outcome.Tie as tie
 

@@ -1,10 +1,10 @@
 -- `put_line` meets its contract. Assumes nothing.
 use Prim.Native.Nat.{_≤_}
 use native.Mathlib.Omega.{arith}
+use borrow.Author.Needs.{needs}
 use lib.ListN.{length}
 use Rattle.printing.proofs.Again.{wrote-then}
 use Rattle.printing.proofs.Digits.{decimal-short}
-use borrow.Author.Needs.{needs}
 use Rattle.text.proofs.telling.put_line.Statement.{statement}
 use Rattle.text.proofs.telling.put_line.Tie as tie
 

@@ -76,19 +76,24 @@ loop-holds c =
 add-made : tie.Need-add-made Inv-loop μ-loop
 add-made c = record { fits = omega (arith, c .before .before .before .before .before .pre .3, c .before .before .before .before .before .pre .2, c .before .loop .inv .0 .few) }
 
-decode-requires : tie.Need-decode-requires Inv-loop μ-loop
-decode-requires c κs =
+ahead-requires : tie.Need-ahead-requires Inv-loop μ-loop
+ahead-requires c κs =
     let o = c .before .loop .inv .0 in
-    let l = less (o .few) (c .if1 .left) in
-    (omega (arith, o .near, o .few, c .before .before .before .before .before .pre .0, c .before .before .before .before .before .pre .2), onward-readable (matryoshka-rule (c .before .before .before .before .before .args .scale)) nothing o l)
+    omega (arith, o .near, o .few, c .before .before .before .before .before .pre .0, c .before .before .before .before .before .pre .2)
+
+decode-ahead-requires : tie.Need-decode-ahead-requires Inv-loop μ-loop
+decode-ahead-requires c κs =
+    let o = c .before .before .loop .inv .0 in
+    let l = less (o .few) (c .before .if1 .left) in
+    (omega (arith, o .near, o .few, c .before .before .before .before .before .before .pre .0, c .before .before .before .before .before .before .pre .2), onward-readable (matryoshka-rule (c .before .before .before .before .before .before .args .scale)) nothing o l, c .ahead .ensures)
 
 step-requires : tie.Need-step-requires Inv-loop μ-loop
 step-requires c κs =
-    let s = c .before .before .before .before .before .before .before .before .before .before in
-    let i = c .before .before .before .before .before .before .loop .inv in
-    let l = less (i .0 .few) (c .before .before .before .before .before .if1 .left) in (
+    let s = c .before .before .before .before .before .before .before .before .before .before .before in
+    let i = c .before .before .before .before .before .before .before .loop .inv in
+    let l = less (i .0 .few) (c .before .before .before .before .before .before .if1 .left) in (
       s .pre .1,
-      onward-smaller (matryoshka-rule (s .args .scale)) nothing (i .0) l (c .before .before .before .before .decode .ensures),
+      onward-smaller (matryoshka-rule (s .args .scale)) nothing (i .0) l (c .before .before .before .before .decode-ahead .ensures),
       omega (arith, s .pre .3, i .0 .few, i .1 .size),
       omega (arith, s .pre .4, i .0 .few, i .2 .size),
       omega (arith, s .pre .5, i .0 .few, i .3 .size),
@@ -102,54 +107,54 @@ enum-known-v : tie.Need-enum-known-v Inv-loop μ-loop
 enum-known-v c = search needs
 
 mul-middle : tie.Need-mul-middle Inv-loop μ-loop
-mul-middle c = record { fits = omega (arith, c .before .before .before .before .before .before .before .before .before .before .before .loop .inv .0 .few, c .before .before .before .before .before .before .before .before .before .before .before .before .before .before .before .pre .2, c .before .before .before .before .before .before .before .before .before .before .before .before .before .before .before .pre .8) }
+mul-middle c = record { fits = omega (arith, c .before .before .before .before .before .before .before .before .before .before .before .before .loop .inv .0 .few, c .before .before .before .before .before .before .before .before .before .before .before .before .before .before .before .before .pre .2, c .before .before .before .before .before .before .before .before .before .before .before .before .before .before .before .before .pre .8) }
 
 slice-set-from-middle : tie.Need-slice-set-from-middle Inv-loop μ-loop
-slice-set-from-middle c = omega (arith, c .before .before .before .before .before .before .before .before .before .before .before .before .before .before .before .pre .3, less (c .before .before .before .before .before .before .before .before .before .before .before .loop .inv .0 .few) (c .before .before .before .before .before .before .before .before .before .before .if1 .left), c .before .before .before .before .before .before .before .before .before .before .before .loop .inv .1 .size)
+slice-set-from-middle c = omega (arith, c .before .before .before .before .before .before .before .before .before .before .before .before .before .before .before .before .pre .3, less (c .before .before .before .before .before .before .before .before .before .before .before .before .loop .inv .0 .few) (c .before .before .before .before .before .before .before .before .before .before .before .if1 .left), c .before .before .before .before .before .before .before .before .before .before .before .before .loop .inv .1 .size)
 
 mul-strays : tie.Need-mul-strays Inv-loop μ-loop
-mul-strays c = record { fits = omega (arith, c .before .before .before .before .before .before .before .before .before .before .before .loop .inv .0 .few, c .before .before .before .before .before .before .before .before .before .before .before .before .before .before .before .pre .2, c .before .before .before .before .before .before .before .before .before .before .before .before .before .before .before .pre .8) }
+mul-strays c = record { fits = omega (arith, c .before .before .before .before .before .before .before .before .before .before .before .before .loop .inv .0 .few, c .before .before .before .before .before .before .before .before .before .before .before .before .before .before .before .before .pre .2, c .before .before .before .before .before .before .before .before .before .before .before .before .before .before .before .before .pre .8) }
 
 slice-write-strays : tie.Need-slice-write-strays Inv-loop μ-loop
-slice-write-strays c = omega (arith, c .before .before .before .before .before .before .before .before .before .before .before .before .before .before .before .pre .4, less (c .before .before .before .before .before .before .before .before .before .before .before .loop .inv .0 .few) (c .before .before .before .before .before .before .before .before .before .before .if1 .left), c .before .before .before .before .before .before .before .before .before .before .before .loop .inv .2 .size)
+slice-write-strays c = omega (arith, c .before .before .before .before .before .before .before .before .before .before .before .before .before .before .before .before .pre .4, less (c .before .before .before .before .before .before .before .before .before .before .before .before .loop .inv .0 .few) (c .before .before .before .before .before .before .before .before .before .before .before .if1 .left), c .before .before .before .before .before .before .before .before .before .before .before .before .loop .inv .2 .size)
 
 mul-margins : tie.Need-mul-margins Inv-loop μ-loop
-mul-margins c = record { fits = omega (arith, c .before .before .before .before .before .before .before .before .before .before .before .loop .inv .0 .few, c .before .before .before .before .before .before .before .before .before .before .before .before .before .before .before .pre .2, c .before .before .before .before .before .before .before .before .before .before .before .before .before .before .before .pre .8) }
+mul-margins c = record { fits = omega (arith, c .before .before .before .before .before .before .before .before .before .before .before .before .loop .inv .0 .few, c .before .before .before .before .before .before .before .before .before .before .before .before .before .before .before .before .pre .2, c .before .before .before .before .before .before .before .before .before .before .before .before .before .before .before .before .pre .8) }
 
 slice-write-margins : tie.Need-slice-write-margins Inv-loop μ-loop
-slice-write-margins c = omega (arith, c .before .before .before .before .before .before .before .before .before .before .before .before .before .before .before .pre .5, less (c .before .before .before .before .before .before .before .before .before .before .before .loop .inv .0 .few) (c .before .before .before .before .before .before .before .before .before .before .if1 .left), c .before .before .before .before .before .before .before .before .before .before .before .loop .inv .3 .size)
+slice-write-margins c = omega (arith, c .before .before .before .before .before .before .before .before .before .before .before .before .before .before .before .before .pre .5, less (c .before .before .before .before .before .before .before .before .before .before .before .before .loop .inv .0 .few) (c .before .before .before .before .before .before .before .before .before .before .before .if1 .left), c .before .before .before .before .before .before .before .before .before .before .before .before .loop .inv .3 .size)
 
 add-k : tie.Need-add-k Inv-loop μ-loop
-add-k c = record { fits = omega (arith, c .before .before .before .before .before .before .before .before .before .before .before .loop .inv .0 .few, c .before .before .before .before .before .before .before .before .before .before .before .before .before .before .before .pre .2) }
+add-k c = record { fits = omega (arith, c .before .before .before .before .before .before .before .before .before .before .before .before .loop .inv .0 .few, c .before .before .before .before .before .before .before .before .before .before .before .before .before .before .before .before .pre .2) }
 
 loop-less : tie.Need-loop-less Inv-loop μ-loop
 loop-less c =
-    let l = less (c .before .before .before .before .before .before .before .before .before .before .before .loop .inv .0 .few) (c .before .before .before .before .before .before .before .before .before .before .if1 .left) in
+    let l = less (c .before .before .before .before .before .before .before .before .before .before .before .before .loop .inv .0 .few) (c .before .before .before .before .before .before .before .before .before .before .before .if1 .left) in
     omega arith
 
 loop-again : tie.Need-loop-again Inv-loop μ-loop
 loop-again c =
-    let a = c .before .before .before .before .before .before .before .before .before .before .before .before .before .before .before .args in
-    let i = c .before .before .before .before .before .before .before .before .before .before .before .loop .inv in
-    let n = a .inputs + c .before .before .before .before .before .before .before .before .before .before .before .loop .k in
-    let cs = c .before .before .before .before .before .before .before .before .before .before .before .loop .middles in
-    let rs = c .before .before .before .before .before .before .before .before .before .before .before .loop .strays in
-    let ms = c .before .before .before .before .before .before .before .before .before .before .before .loop .margins in
-    let l = less (i .0 .few) (c .before .before .before .before .before .before .before .before .before .before .if1 .left) in
+    let a = c .before .before .before .before .before .before .before .before .before .before .before .before .before .before .before .before .args in
+    let i = c .before .before .before .before .before .before .before .before .before .before .before .before .loop .inv in
+    let n = a .inputs + c .before .before .before .before .before .before .before .before .before .before .before .before .loop .k in
+    let cs = c .before .before .before .before .before .before .before .before .before .before .before .before .loop .middles in
+    let rs = c .before .before .before .before .before .before .before .before .before .before .before .before .loop .strays in
+    let ms = c .before .before .before .before .before .before .before .before .before .before .before .before .loop .margins in
+    let l = less (i .0 .few) (c .before .before .before .before .before .before .before .before .before .before .before .if1 .left) in
     let g = c .before .before .v .given in
     let r = by-case matryoshka-answer (c .before .before .before .before .step .ensures) (g .1) in
     let v = g .0 .0 in
-    let p = matryoshka-legal (a .scale) (with-values nothing (matryoshki (take n cs) (take n rs) (take n ms)) (c .before .before .before .before .before .before .before .before .before .decode .result .instruction)) r in
-    let inc : n < length cs = omega (arith, c .before .before .before .before .before .before .before .before .before .before .before .before .before .before .before .pre .3, l, i .1 .size) in
-    let inr : n < length rs = omega (arith, c .before .before .before .before .before .before .before .before .before .before .before .before .before .before .before .pre .4, l, i .2 .size) in
-    let inm : n < length ms = omega (arith, c .before .before .before .before .before .before .before .before .before .before .before .before .before .before .before .pre .5, l, i .3 .size) in
+    let p = matryoshka-legal (a .scale) (with-values nothing (matryoshki (take n cs) (take n rs) (take n ms)) (c .before .before .before .before .before .before .before .before .before .decode-ahead .result .instruction)) r in
+    let inc : n < length cs = omega (arith, c .before .before .before .before .before .before .before .before .before .before .before .before .before .before .before .before .pre .3, l, i .1 .size) in
+    let inr : n < length rs = omega (arith, c .before .before .before .before .before .before .before .before .before .before .before .before .before .before .before .before .pre .4, l, i .2 .size) in
+    let inm : n < length ms = omega (arith, c .before .before .before .before .before .before .before .before .before .before .before .before .before .before .before .before .pre .5, l, i .3 .size) in
     let f = one-more n cs rs ms v inc inr inm in
-    let o = onward-more (matryoshka-rule (a .scale)) nothing (i .0) l (c .before .before .before .before .before .before .before .before .before .decode .ensures) r in
+    let o = onward-more (matryoshka-rule (a .scale)) nothing (i .0) l (c .before .before .before .before .before .before .before .before .before .decode-ahead .ensures) r in
     subst₂
-    (λ (z : ℤ) (q : ℕ). Onward (matryoshka-rule (a .scale)) nothing (a .s .now) (a .c) (c .before .before .before .before .before .before .before .before .before .decode .result .next) (a .inputs) (a .count) (c .before .before .before .before .before .before .before .before .before .before .before .loop .k + 1) (matryoshki (take (a .inputs) (a .middles .now)) (take (a .inputs) (a .strays .now)) (take (a .inputs) (a .margins .now))) (matryoshki (take q (set cs n z)) (take q (set rs n (v .stray))) (take q (set ms n (v .margin))))
+    (λ (z : ℤ) (q : ℕ). Onward (matryoshka-rule (a .scale)) nothing (a .s .now) (a .c) (c .before .before .before .before .before .before .before .before .before .decode-ahead .result .next) (a .inputs) (a .count) (c .before .before .before .before .before .before .before .before .before .before .before .before .loop .k + 1) (matryoshki (take (a .inputs) (a .middles .now)) (take (a .inputs) (a .strays .now)) (take (a .inputs) (a .margins .now))) (matryoshki (take q (set cs n z)) (take q (set rs n (v .stray))) (take q (set ms n (v .margin))))
     × Held q (a .middles .now) (set cs n z) × Held q (a .strays .now) (set rs n (v .stray)) × Held q (a .margins .now) (set ms n (v .margin)) × All IsMatryoshka (matryoshki (take q (set cs n z)) (take q (set rs n (v .stray))) (take q (set ms n (v .margin)))))
-    (sym (kept (v .middle) (middle-size v p))) (further (a .inputs) (c .before .before .before .before .before .before .before .before .before .before .before .loop .k)) (
-      subst (λ (l : List Matryoshka). Onward (matryoshka-rule (a .scale)) nothing (a .s .now) (a .c) (c .before .before .before .before .before .before .before .before .before .decode .result .next) (a .inputs) (a .count) (c .before .before .before .before .before .before .before .before .before .before .before .loop .k + 1) (matryoshki (take (a .inputs) (a .middles .now)) (take (a .inputs) (a .strays .now)) (take (a .inputs) (a .margins .now))) l) (sym f) o,
+    (sym (kept (v .middle) (middle-size v p))) (further (a .inputs) (c .before .before .before .before .before .before .before .before .before .before .before .before .loop .k)) (
+      subst (λ (l : List Matryoshka). Onward (matryoshka-rule (a .scale)) nothing (a .s .now) (a .c) (c .before .before .before .before .before .before .before .before .before .decode-ahead .result .next) (a .inputs) (a .count) (c .before .before .before .before .before .before .before .before .before .before .before .before .loop .k + 1) (matryoshki (take (a .inputs) (a .middles .now)) (take (a .inputs) (a .strays .now)) (take (a .inputs) (a .margins .now))) l) (sym f) o,
       held-more (v .middle) (i .1),
       held-more (v .stray) (i .2),
       held-more (v .margin) (i .3),
@@ -179,29 +184,29 @@ returns c =
     (rw r, rw r (part-over (i .1) inc (matryoshki-middles t)), rw r (part-over (i .2) inr (matryoshki-strays t)), rw r (part-over (i .3) inm (matryoshki-margins t)), onward-stands (matryoshka-rule (a .scale)) nothing (i .0) (c .if1 .taken) e)
 
 same-length-4 : tie.Need-same-length-4 Inv-loop μ-loop
-same-length-4 c = c .before .before .before .before .before .before .before .before .before .loop .inv .1 .size
+same-length-4 c = c .before .before .before .before .before .before .before .before .before .before .loop .inv .1 .size
 
 same-length-5 : tie.Need-same-length-5 Inv-loop μ-loop
-same-length-5 c = c .before .before .before .before .before .before .before .before .before .loop .inv .2 .size
+same-length-5 c = c .before .before .before .before .before .before .before .before .before .before .loop .inv .2 .size
 
 same-length-6 : tie.Need-same-length-6 Inv-loop μ-loop
-same-length-6 c = c .before .before .before .before .before .before .before .before .before .loop .inv .3 .size
+same-length-6 c = c .before .before .before .before .before .before .before .before .before .before .loop .inv .3 .size
 
 returns-2 : tie.Need-returns-2 Inv-loop μ-loop
 returns-2 c =
     λ x e.
-    let a = c .before .before .before .before .before .before .before .before .before .before .before .before .before .args in
-    let i = c .before .before .before .before .before .before .before .before .before .loop .inv in
-    let k = c .before .before .before .before .before .before .before .before .before .loop .k in
+    let a = c .before .before .before .before .before .before .before .before .before .before .before .before .before .before .args in
+    let i = c .before .before .before .before .before .before .before .before .before .before .loop .inv in
+    let k = c .before .before .before .before .before .before .before .before .before .before .loop .k in
     let n = a .inputs + k in
-    let l = less (i .0 .few) (c .before .before .before .before .before .before .before .before .if1 .left) in
+    let l = less (i .0 .few) (c .before .before .before .before .before .before .before .before .before .if1 .left) in
     let h = by-case matryoshka-answer (c .before .before .step .ensures) (c .enum-told .given .1) in
-    let r = onward-whole (matryoshka-rule (a .scale)) nothing (i .0) e (onward-stops (matryoshka-rule (a .scale)) nothing (i .0) l (c .before .before .before .before .before .before .before .decode .ensures) h) in
-    let inc : n ≤ length (c .before .before .before .before .before .before .before .before .before .loop .middles) = omega (arith, c .before .before .before .before .before .before .before .before .before .before .before .before .before .pre .3, i .0 .few, i .1 .size) in
-    let inr : n ≤ length (c .before .before .before .before .before .before .before .before .before .loop .strays) = omega (arith, c .before .before .before .before .before .before .before .before .before .before .before .before .before .pre .4, i .0 .few, i .2 .size) in
-    let inm : n ≤ length (c .before .before .before .before .before .before .before .before .before .loop .margins) = omega (arith, c .before .before .before .before .before .before .before .before .before .before .before .before .before .pre .5, i .0 .few, i .3 .size) in
-    let t = fronts n (c .before .before .before .before .before .before .before .before .before .loop .middles) (c .before .before .before .before .before .before .before .before .before .loop .strays) (c .before .before .before .before .before .before .before .before .before .loop .margins) inc inr inm in (
-      rw r (ap (refuses 11) (place-of (a .inputs) k (c .before .before .before .before .before .before .before .before .before .loop .middles) inc ∙ ap (λ (z : ℕ). z - a .inputs) (sym (matryoshki-long t)))),
+    let r = onward-whole (matryoshka-rule (a .scale)) nothing (i .0) e (onward-stops (matryoshka-rule (a .scale)) nothing (i .0) l (c .before .before .before .before .before .before .before .decode-ahead .ensures) h) in
+    let inc : n ≤ length (c .before .before .before .before .before .before .before .before .before .before .loop .middles) = omega (arith, c .before .before .before .before .before .before .before .before .before .before .before .before .before .before .pre .3, i .0 .few, i .1 .size) in
+    let inr : n ≤ length (c .before .before .before .before .before .before .before .before .before .before .loop .strays) = omega (arith, c .before .before .before .before .before .before .before .before .before .before .before .before .before .before .pre .4, i .0 .few, i .2 .size) in
+    let inm : n ≤ length (c .before .before .before .before .before .before .before .before .before .before .loop .margins) = omega (arith, c .before .before .before .before .before .before .before .before .before .before .before .before .before .before .pre .5, i .0 .few, i .3 .size) in
+    let t = fronts n (c .before .before .before .before .before .before .before .before .before .before .loop .middles) (c .before .before .before .before .before .before .before .before .before .before .loop .strays) (c .before .before .before .before .before .before .before .before .before .before .loop .margins) inc inr inm in (
+      rw r (ap (refuses 11) (place-of (a .inputs) k (c .before .before .before .before .before .before .before .before .before .before .loop .middles) inc ∙ ap (λ (z : ℕ). z - a .inputs) (sym (matryoshki-long t)))),
       rw r (part-over (i .1) inc (matryoshki-middles t)),
       rw r (part-over (i .2) inr (matryoshki-strays t)),
       rw r (part-over (i .3) inm (matryoshki-margins t)),
@@ -209,4 +214,4 @@ returns-2 c =
     )
 
 pub walk-spec : {M : Type 1} → statement M
-walk-spec = tie.close (tie.spec Inv-loop μ-loop loop-holds add-made decode-requires step-requires enum-told enum-known-v mul-middle slice-set-from-middle mul-strays slice-write-strays mul-margins slice-write-margins add-k loop-less loop-again same-length same-length-2 same-length-3 returns same-length-4 same-length-5 same-length-6 returns-2)
+walk-spec = tie.close (tie.spec Inv-loop μ-loop loop-holds add-made ahead-requires decode-ahead-requires step-requires enum-told enum-known-v mul-middle slice-set-from-middle mul-strays slice-write-strays mul-margins slice-write-margins add-k loop-less loop-again same-length same-length-2 same-length-3 returns same-length-4 same-length-5 same-length-6 returns-2)

@@ -69,19 +69,24 @@ loop-holds c =
 add-made : tie.Need-add-made Inv-loop μ-loop
 add-made c = record { fits = omega (arith, c .before .before .before .before .pre .3, c .before .before .before .before .pre .2, c .before .loop .inv .0 .few) }
 
-decode-requires : tie.Need-decode-requires Inv-loop μ-loop
-decode-requires c κs =
+ahead-requires : tie.Need-ahead-requires Inv-loop μ-loop
+ahead-requires c κs =
     let o = c .before .loop .inv .0 in
-    let l = less (o .few) (c .if1 .left) in
-    (omega (arith, o .near, o .few, c .before .before .before .before .pre .0, c .before .before .before .before .pre .2), onward-readable (ball-rule (c .before .before .before .before .args .scale)) (ball (pos 0) 0) o l)
+    omega (arith, o .near, o .few, c .before .before .before .before .pre .0, c .before .before .before .before .pre .2)
+
+decode-ahead-requires : tie.Need-decode-ahead-requires Inv-loop μ-loop
+decode-ahead-requires c κs =
+    let o = c .before .before .loop .inv .0 in
+    let l = less (o .few) (c .before .if1 .left) in
+    (omega (arith, o .near, o .few, c .before .before .before .before .before .pre .0, c .before .before .before .before .before .pre .2), onward-readable (ball-rule (c .before .before .before .before .before .args .scale)) (ball (pos 0) 0) o l, c .ahead .ensures)
 
 step-requires : tie.Need-step-requires Inv-loop μ-loop
 step-requires c κs =
-    let s = c .before .before .before .before .before .before .before .before in
-    let i = c .before .before .before .before .before .loop .inv in
-    let l = less (i .0 .few) (c .before .before .before .before .if1 .left) in (
+    let s = c .before .before .before .before .before .before .before .before .before in
+    let i = c .before .before .before .before .before .before .loop .inv in
+    let l = less (i .0 .few) (c .before .before .before .before .before .if1 .left) in (
       s .pre .1,
-      onward-smaller (ball-rule (s .args .scale)) (ball (pos 0) 0) (i .0) l (c .before .before .before .decode .ensures),
+      onward-smaller (ball-rule (s .args .scale)) (ball (pos 0) 0) (i .0) l (c .before .before .before .decode-ahead .ensures),
       omega (arith, s .pre .3, i .0 .few, i .1 .size),
       omega (arith, s .pre .4, i .0 .few, i .2 .size),
       i .3,
@@ -94,48 +99,56 @@ enum-known-v : tie.Need-enum-known-v Inv-loop μ-loop
 enum-known-v c = search needs
 
 mul-centre : tie.Need-mul-centre Inv-loop μ-loop
-mul-centre c = search needs
+mul-centre c =
+    let g = c .before .before .before .before .before .before .before .before .before .before .before .before .before .before .good in
+    let p = c .before .before .before .before .before .before .before .before .before .before .before .before .before .before .pre in
+    let l = less (c .before .before .before .before .before .before .before .before .before .before .before .loop .inv .0 .few) (c .before .before .before .before .before .before .before .before .before .before .if1 .left) in
+    record { fits = omega (arith, p .3) }
 
 slice-set-from-centre : tie.Need-slice-set-from-centre Inv-loop μ-loop
-slice-set-from-centre c = omega (arith, c .before .before .before .before .before .before .before .before .before .before .before .before .before .pre .3, less (c .before .before .before .before .before .before .before .before .before .before .loop .inv .0 .few) (c .before .before .before .before .before .before .before .before .before .if1 .left), c .before .before .before .before .before .before .before .before .before .before .loop .inv .1 .size)
+slice-set-from-centre c = omega (arith, c .before .before .before .before .before .before .before .before .before .before .before .before .before .before .pre .3, less (c .before .before .before .before .before .before .before .before .before .before .before .loop .inv .0 .few) (c .before .before .before .before .before .before .before .before .before .before .if1 .left), c .before .before .before .before .before .before .before .before .before .before .before .loop .inv .1 .size)
 
 mul-margins : tie.Need-mul-margins Inv-loop μ-loop
-mul-margins c = search needs
+mul-margins c =
+    let g = c .before .before .before .before .before .before .before .before .before .before .before .before .before .before .good in
+    let p = c .before .before .before .before .before .before .before .before .before .before .before .before .before .before .pre in
+    let l = less (c .before .before .before .before .before .before .before .before .before .before .before .loop .inv .0 .few) (c .before .before .before .before .before .before .before .before .before .before .if1 .left) in
+    record { fits = omega (arith, p .3) }
 
 slice-write-margins : tie.Need-slice-write-margins Inv-loop μ-loop
-slice-write-margins c = omega (arith, c .before .before .before .before .before .before .before .before .before .before .before .before .before .pre .4, less (c .before .before .before .before .before .before .before .before .before .before .loop .inv .0 .few) (c .before .before .before .before .before .before .before .before .before .if1 .left), c .before .before .before .before .before .before .before .before .before .before .loop .inv .2 .size)
+slice-write-margins c = omega (arith, c .before .before .before .before .before .before .before .before .before .before .before .before .before .before .pre .4, less (c .before .before .before .before .before .before .before .before .before .before .before .loop .inv .0 .few) (c .before .before .before .before .before .before .before .before .before .before .if1 .left), c .before .before .before .before .before .before .before .before .before .before .before .loop .inv .2 .size)
 
 add-k : tie.Need-add-k Inv-loop μ-loop
-add-k c = record { fits = omega (arith, c .before .before .before .before .before .before .before .before .before .before .loop .inv .0 .few, c .before .before .before .before .before .before .before .before .before .before .before .before .before .pre .2) }
+add-k c = record { fits = omega (arith, c .before .before .before .before .before .before .before .before .before .before .before .loop .inv .0 .few, c .before .before .before .before .before .before .before .before .before .before .before .before .before .before .pre .2) }
 
 loop-less : tie.Need-loop-less Inv-loop μ-loop
 loop-less c =
-    let l = less (c .before .before .before .before .before .before .before .before .before .before .loop .inv .0 .few) (c .before .before .before .before .before .before .before .before .before .if1 .left) in
+    let l = less (c .before .before .before .before .before .before .before .before .before .before .before .loop .inv .0 .few) (c .before .before .before .before .before .before .before .before .before .before .if1 .left) in
     omega arith
 
 loop-again : tie.Need-loop-again Inv-loop μ-loop
 loop-again c =
-    let a = c .before .before .before .before .before .before .before .before .before .before .before .before .before .args in
-    let i = c .before .before .before .before .before .before .before .before .before .before .loop .inv in
-    let n = a .inputs + c .before .before .before .before .before .before .before .before .before .before .loop .k in
-    let cs = c .before .before .before .before .before .before .before .before .before .before .loop .centres in
-    let ms = c .before .before .before .before .before .before .before .before .before .before .loop .margins in
-    let l = less (i .0 .few) (c .before .before .before .before .before .before .before .before .before .if1 .left) in
+    let a = c .before .before .before .before .before .before .before .before .before .before .before .before .before .before .args in
+    let i = c .before .before .before .before .before .before .before .before .before .before .before .loop .inv in
+    let n = a .inputs + c .before .before .before .before .before .before .before .before .before .before .before .loop .k in
+    let cs = c .before .before .before .before .before .before .before .before .before .before .before .loop .centres in
+    let ms = c .before .before .before .before .before .before .before .before .before .before .before .loop .margins in
+    let l = less (i .0 .few) (c .before .before .before .before .before .before .before .before .before .before .if1 .left) in
     let g = c .before .before .v .given in
     let r = by-case ball-answer (c .before .before .before .before .step .ensures) (g .1) in
     let v = g .0 .0 in
-    let p = ball-legal (a .scale) (with-values (ball (pos 0) 0) (balls (take n cs) (take n ms)) (c .before .before .before .before .before .before .before .before .decode .result .instruction)) r in
-    let inc : n < length cs = omega (arith, c .before .before .before .before .before .before .before .before .before .before .before .before .before .pre .3, l, i .1 .size) in
-    let inm : n < length ms = omega (arith, c .before .before .before .before .before .before .before .before .before .before .before .before .before .pre .4, l, i .2 .size) in
+    let p = ball-legal (a .scale) (with-values (ball (pos 0) 0) (balls (take n cs) (take n ms)) (c .before .before .before .before .before .before .before .before .decode-ahead .result .instruction)) r in
+    let inc : n < length cs = omega (arith, c .before .before .before .before .before .before .before .before .before .before .before .before .before .before .pre .3, l, i .1 .size) in
+    let inm : n < length ms = omega (arith, c .before .before .before .before .before .before .before .before .before .before .before .before .before .before .pre .4, l, i .2 .size) in
     let f : balls (take (n + 1) (set cs n (v .centre))) (take (n + 1) (set ms n (v .margin))) ≡ balls (take n cs) (take n ms) ++ v ∷ [] =
     ap₂ balls (front-more n cs (v .centre) inc) (front-more n ms (v .margin) inm)
     ∙ balls-behind (take n cs) (take n ms) (v .centre) (v .margin) (length-take-le n cs (omega arith) ∙ sym (length-take-le n ms (omega arith))) in
-    let o = onward-more (ball-rule (a .scale)) (ball (pos 0) 0) (i .0) l (c .before .before .before .before .before .before .before .before .decode .ensures) r in
+    let o = onward-more (ball-rule (a .scale)) (ball (pos 0) 0) (i .0) l (c .before .before .before .before .before .before .before .before .decode-ahead .ensures) r in
     subst₂
-    (λ (z : ℤ) (q : ℕ). Onward (ball-rule (a .scale)) (ball (pos 0) 0) (a .s .now) (a .c) (c .before .before .before .before .before .before .before .before .decode .result .next) (a .inputs) (a .count) (c .before .before .before .before .before .before .before .before .before .before .loop .k + 1) (balls (take (a .inputs) (a .centres .now)) (take (a .inputs) (a .margins .now))) (balls (take q (set cs n z)) (take q (set ms n (v .margin))))
+    (λ (z : ℤ) (q : ℕ). Onward (ball-rule (a .scale)) (ball (pos 0) 0) (a .s .now) (a .c) (c .before .before .before .before .before .before .before .before .decode-ahead .result .next) (a .inputs) (a .count) (c .before .before .before .before .before .before .before .before .before .before .before .loop .k + 1) (balls (take (a .inputs) (a .centres .now)) (take (a .inputs) (a .margins .now))) (balls (take q (set cs n z)) (take q (set ms n (v .margin))))
     × Held q (a .centres .now) (set cs n z) × Held q (a .margins .now) (set ms n (v .margin)) × All IsBall (balls (take q (set cs n z)) (take q (set ms n (v .margin)))))
-    (sym (kept (v .centre) (centre-size v p))) (further (a .inputs) (c .before .before .before .before .before .before .before .before .before .before .loop .k)) (
-      subst (λ (l : List Ball). Onward (ball-rule (a .scale)) (ball (pos 0) 0) (a .s .now) (a .c) (c .before .before .before .before .before .before .before .before .decode .result .next) (a .inputs) (a .count) (c .before .before .before .before .before .before .before .before .before .before .loop .k + 1) (balls (take (a .inputs) (a .centres .now)) (take (a .inputs) (a .margins .now))) l) (sym f) o,
+    (sym (kept (v .centre) (centre-size v p))) (further (a .inputs) (c .before .before .before .before .before .before .before .before .before .before .before .loop .k)) (
+      subst (λ (l : List Ball). Onward (ball-rule (a .scale)) (ball (pos 0) 0) (a .s .now) (a .c) (c .before .before .before .before .before .before .before .before .decode-ahead .result .next) (a .inputs) (a .count) (c .before .before .before .before .before .before .before .before .before .before .before .loop .k + 1) (balls (take (a .inputs) (a .centres .now)) (take (a .inputs) (a .margins .now))) l) (sym f) o,
       held-more (v .centre) (i .1),
       held-more (v .margin) (i .2),
       subst (All IsBall) (sym f) (all-behind (i .3) p),
@@ -158,22 +171,22 @@ returns c =
     (rw r, rw r (whole-centres (i .1) (i .2) inc inm), rw r (whole-margins (i .1) (i .2) inc inm), onward-stands (ball-rule (a .scale)) (ball (pos 0) 0) (i .0) (c .if1 .taken) e)
 
 same-length-3 : tie.Need-same-length-3 Inv-loop μ-loop
-same-length-3 c = c .before .before .before .before .before .before .before .before .loop .inv .1 .size
+same-length-3 c = c .before .before .before .before .before .before .before .before .before .loop .inv .1 .size
 
 same-length-4 : tie.Need-same-length-4 Inv-loop μ-loop
-same-length-4 c = c .before .before .before .before .before .before .before .before .loop .inv .2 .size
+same-length-4 c = c .before .before .before .before .before .before .before .before .before .loop .inv .2 .size
 
 returns-2 : tie.Need-returns-2 Inv-loop μ-loop
 returns-2 c =
     λ x e.
-    let a = c .before .before .before .before .before .before .before .before .before .before .before .args in
-    let i = c .before .before .before .before .before .before .before .before .loop .inv in
-    let l = less (i .0 .few) (c .before .before .before .before .before .before .before .if1 .left) in
+    let a = c .before .before .before .before .before .before .before .before .before .before .before .before .args in
+    let i = c .before .before .before .before .before .before .before .before .before .loop .inv in
+    let l = less (i .0 .few) (c .before .before .before .before .before .before .before .before .if1 .left) in
     let t = by-case ball-answer (c .before .before .step .ensures) (c .enum-told .given .1) in
-    let r = onward-whole (ball-rule (a .scale)) (ball (pos 0) 0) (i .0) e (onward-stops (ball-rule (a .scale)) (ball (pos 0) 0) (i .0) l (c .before .before .before .before .before .before .decode .ensures) t) in
-    let inc : a .inputs + c .before .before .before .before .before .before .before .before .loop .k ≤ length (c .before .before .before .before .before .before .before .before .loop .centres) = omega (arith, c .before .before .before .before .before .before .before .before .before .before .before .pre .3, i .0 .few, i .1 .size) in
-    let inm : a .inputs + c .before .before .before .before .before .before .before .before .loop .k ≤ length (c .before .before .before .before .before .before .before .before .loop .margins) = omega (arith, c .before .before .before .before .before .before .before .before .before .before .before .pre .4, i .0 .few, i .2 .size) in
-    (rw r (ap (refuses 11) (stop-place (a .inputs) (c .before .before .before .before .before .before .before .before .loop .k) (c .before .before .before .before .before .before .before .before .loop .centres) (c .before .before .before .before .before .before .before .before .loop .margins) inc inm)), rw r (whole-centres (i .1) (i .2) inc inm), rw r (whole-margins (i .1) (i .2) inc inm), tt)
+    let r = onward-whole (ball-rule (a .scale)) (ball (pos 0) 0) (i .0) e (onward-stops (ball-rule (a .scale)) (ball (pos 0) 0) (i .0) l (c .before .before .before .before .before .before .decode-ahead .ensures) t) in
+    let inc : a .inputs + c .before .before .before .before .before .before .before .before .before .loop .k ≤ length (c .before .before .before .before .before .before .before .before .before .loop .centres) = omega (arith, c .before .before .before .before .before .before .before .before .before .before .before .before .pre .3, i .0 .few, i .1 .size) in
+    let inm : a .inputs + c .before .before .before .before .before .before .before .before .before .loop .k ≤ length (c .before .before .before .before .before .before .before .before .before .loop .margins) = omega (arith, c .before .before .before .before .before .before .before .before .before .before .before .before .pre .4, i .0 .few, i .2 .size) in
+    (rw r (ap (refuses 11) (stop-place (a .inputs) (c .before .before .before .before .before .before .before .before .before .loop .k) (c .before .before .before .before .before .before .before .before .before .loop .centres) (c .before .before .before .before .before .before .before .before .before .loop .margins) inc inm)), rw r (whole-centres (i .1) (i .2) inc inm), rw r (whole-margins (i .1) (i .2) inc inm), tt)
 
 pub walk-spec : {M : Type 1} → statement M
-walk-spec = tie.close (tie.spec Inv-loop μ-loop loop-holds add-made decode-requires step-requires enum-told enum-known-v mul-centre slice-set-from-centre mul-margins slice-write-margins add-k loop-less loop-again same-length same-length-2 returns same-length-3 same-length-4 returns-2)
+walk-spec = tie.close (tie.spec Inv-loop μ-loop loop-holds add-made ahead-requires decode-ahead-requires step-requires enum-told enum-known-v mul-centre slice-set-from-centre mul-margins slice-write-margins add-k loop-less loop-again same-length same-length-2 returns same-length-3 same-length-4 returns-2)

@@ -48,18 +48,23 @@ loop-holds c =
 add-made : tie.Need-add-made Inv-loop μ-loop
 add-made c = record { fits = omega (arith, c .before .before .before .pre .3, c .before .before .before .pre .2, c .before .loop .inv .0 .few) }
 
-decode-requires : tie.Need-decode-requires Inv-loop μ-loop
-decode-requires c κs =
+ahead-requires : tie.Need-ahead-requires Inv-loop μ-loop
+ahead-requires c κs =
     let o = c .before .loop .inv .0 in
-    let l = less (o .few) (c .if1 .left) in
-    (omega (arith, o .near, o .few, c .before .before .before .pre .0, c .before .before .before .pre .2), onward-readable (plain-rule (c .before .before .before .args .scale)) (pos 0) o l)
+    omega (arith, o .near, o .few, c .before .before .before .pre .0, c .before .before .before .pre .2)
+
+decode-ahead-requires : tie.Need-decode-ahead-requires Inv-loop μ-loop
+decode-ahead-requires c κs =
+    let o = c .before .before .loop .inv .0 in
+    let l = less (o .few) (c .before .if1 .left) in
+    (omega (arith, o .near, o .few, c .before .before .before .before .pre .0, c .before .before .before .before .pre .2), onward-readable (plain-rule (c .before .before .before .before .args .scale)) (pos 0) o l, c .ahead .ensures)
 
 step-requires : tie.Need-step-requires Inv-loop μ-loop
 step-requires c κs =
-    let s = c .before .before .before .before .before .before in
-    let i = c .before .before .before .before .loop .inv in
-    let l = less (i .0 .few) (c .before .before .before .if1 .left) in
-    (s .pre .1, onward-smaller (plain-rule (s .args .scale)) (pos 0) (i .0) l (c .before .before .decode .ensures), omega (arith, s .pre .3, i .0 .few, i .1 .size), i .2)
+    let s = c .before .before .before .before .before .before .before in
+    let i = c .before .before .before .before .before .loop .inv in
+    let l = less (i .0 .few) (c .before .before .before .before .if1 .left) in
+    (s .pre .1, onward-smaller (plain-rule (s .args .scale)) (pos 0) (i .0) l (c .before .before .decode-ahead .ensures), omega (arith, s .pre .3, i .0 .few, i .1 .size), i .2)
 
 enum-told : tie.Need-enum-told Inv-loop μ-loop
 enum-told c = search needs
@@ -71,35 +76,35 @@ mul-v : tie.Need-mul-v Inv-loop μ-loop
 mul-v c = search needs
 
 slice-set-from-v : tie.Need-slice-set-from-v Inv-loop μ-loop
-slice-set-from-v c = omega (arith, c .before .before .before .before .before .before .before .before .before .before .pre .3, less (c .before .before .before .before .before .before .before .before .loop .inv .0 .few) (c .before .before .before .before .before .before .before .if1 .left), c .before .before .before .before .before .before .before .before .loop .inv .1 .size)
+slice-set-from-v c = omega (arith, c .before .before .before .before .before .before .before .before .before .before .before .pre .3, less (c .before .before .before .before .before .before .before .before .before .loop .inv .0 .few) (c .before .before .before .before .before .before .before .before .if1 .left), c .before .before .before .before .before .before .before .before .before .loop .inv .1 .size)
 
 add-k : tie.Need-add-k Inv-loop μ-loop
-add-k c = record { fits = omega (arith, c .before .before .before .before .before .before .before .before .loop .inv .0 .few, c .before .before .before .before .before .before .before .before .before .before .pre .2) }
+add-k c = record { fits = omega (arith, c .before .before .before .before .before .before .before .before .before .loop .inv .0 .few, c .before .before .before .before .before .before .before .before .before .before .before .pre .2) }
 
 loop-less : tie.Need-loop-less Inv-loop μ-loop
 loop-less c =
-    let l = less (c .before .before .before .before .before .before .before .before .loop .inv .0 .few) (c .before .before .before .before .before .before .before .if1 .left) in
+    let l = less (c .before .before .before .before .before .before .before .before .before .loop .inv .0 .few) (c .before .before .before .before .before .before .before .before .if1 .left) in
     omega arith
 
 loop-again : tie.Need-loop-again Inv-loop μ-loop
 loop-again c =
-    let a = c .before .before .before .before .before .before .before .before .before .before .args in
-    let i = c .before .before .before .before .before .before .before .before .loop .inv in
-    let n = a .inputs + c .before .before .before .before .before .before .before .before .loop .k in
-    let w = c .before .before .before .before .before .before .before .before .loop .work in
-    let l = less (i .0 .few) (c .before .before .before .before .before .before .before .if1 .left) in
+    let a = c .before .before .before .before .before .before .before .before .before .before .before .args in
+    let i = c .before .before .before .before .before .before .before .before .before .loop .inv in
+    let n = a .inputs + c .before .before .before .before .before .before .before .before .before .loop .k in
+    let w = c .before .before .before .before .before .before .before .before .before .loop .work in
+    let l = less (i .0 .few) (c .before .before .before .before .before .before .before .before .if1 .left) in
     let g = c .before .v .given in
     let r = by-case plain-answer (c .before .before .before .step .ensures) (g .1) in
     let v = g .0 .0 in
-    let p = plain-legal (a .scale) (with-values (pos 0) (take n w) (c .before .before .before .before .before .before .decode .result .instruction)) r in
-    let inside : n < length w = omega (arith, c .before .before .before .before .before .before .before .before .before .before .pre .3, l, i .1 .size) in
+    let p = plain-legal (a .scale) (with-values (pos 0) (take n w) (c .before .before .before .before .before .before .decode-ahead .result .instruction)) r in
+    let inside : n < length w = omega (arith, c .before .before .before .before .before .before .before .before .before .before .before .pre .3, l, i .1 .size) in
     let f : take (n + 1) (set w n v) ≡ take n w ++ v ∷ [] = front-more n w v inside in
-    let o = onward-more (plain-rule (a .scale)) (pos 0) (i .0) l (c .before .before .before .before .before .before .decode .ensures) r in
+    let o = onward-more (plain-rule (a .scale)) (pos 0) (i .0) l (c .before .before .before .before .before .before .decode-ahead .ensures) r in
     subst₂
-    (λ (z : ℤ) (q : ℕ). Onward (plain-rule (a .scale)) (pos 0) (a .s .now) (a .c) (c .before .before .before .before .before .before .decode .result .next) (a .inputs) (a .count) (c .before .before .before .before .before .before .before .before .loop .k + 1) (take (a .inputs) (a .work .now)) (take q (set w n z))
+    (λ (z : ℤ) (q : ℕ). Onward (plain-rule (a .scale)) (pos 0) (a .s .now) (a .c) (c .before .before .before .before .before .before .decode-ahead .result .next) (a .inputs) (a .count) (c .before .before .before .before .before .before .before .before .before .loop .k + 1) (take (a .inputs) (a .work .now)) (take q (set w n z))
     × Held q (a .work .now) (set w n z) × All Allowed (take q (set w n z)))
-    (sym (kept v p)) (further (a .inputs) (c .before .before .before .before .before .before .before .before .loop .k)) (
-      subst (λ (l : List ℤ). Onward (plain-rule (a .scale)) (pos 0) (a .s .now) (a .c) (c .before .before .before .before .before .before .decode .result .next) (a .inputs) (a .count) (c .before .before .before .before .before .before .before .before .loop .k + 1) (take (a .inputs) (a .work .now)) l) (sym f) o,
+    (sym (kept v p)) (further (a .inputs) (c .before .before .before .before .before .before .before .before .before .loop .k)) (
+      subst (λ (l : List ℤ). Onward (plain-rule (a .scale)) (pos 0) (a .s .now) (a .c) (c .before .before .before .before .before .before .decode-ahead .result .next) (a .inputs) (a .count) (c .before .before .before .before .before .before .before .before .before .loop .k + 1) (take (a .inputs) (a .work .now)) l) (sym f) o,
       held-more v (i .1),
       subst (All Allowed) (sym f) (all-behind (i .2) p),
     )
@@ -116,18 +121,18 @@ returns c =
     (rw r, rw r (held-over (i .1) (omega (arith, c .before .before .before .pre .3, i .0 .few, i .1 .size))), onward-stands (plain-rule (a .scale)) (pos 0) (i .0) (c .if1 .taken) e)
 
 same-length-2 : tie.Need-same-length-2 Inv-loop μ-loop
-same-length-2 c = c .before .before .before .before .before .before .before .loop .inv .1 .size
+same-length-2 c = c .before .before .before .before .before .before .before .before .loop .inv .1 .size
 
 returns-2 : tie.Need-returns-2 Inv-loop μ-loop
 returns-2 c =
     λ x e.
-    let a = c .before .before .before .before .before .before .before .before .before .args in
-    let i = c .before .before .before .before .before .before .before .loop .inv in
-    let l = less (i .0 .few) (c .before .before .before .before .before .before .if1 .left) in
+    let a = c .before .before .before .before .before .before .before .before .before .before .args in
+    let i = c .before .before .before .before .before .before .before .before .loop .inv in
+    let l = less (i .0 .few) (c .before .before .before .before .before .before .before .if1 .left) in
     let t = by-case plain-answer (c .before .before .step .ensures) (c .enum-told .given .1) in
-    let r = onward-whole (plain-rule (a .scale)) (pos 0) (i .0) e (onward-stops (plain-rule (a .scale)) (pos 0) (i .0) l (c .before .before .before .before .before .decode .ensures) t) in
-    let inside : a .inputs + c .before .before .before .before .before .before .before .loop .k ≤ length (c .before .before .before .before .before .before .before .loop .work) = omega (arith, c .before .before .before .before .before .before .before .before .before .pre .3, i .0 .few, i .1 .size) in
-    (rw r (ap (refuses 11) (place-of (a .inputs) (c .before .before .before .before .before .before .before .loop .k) (c .before .before .before .before .before .before .before .loop .work) inside)), rw r (held-over (i .1) inside), tt)
+    let r = onward-whole (plain-rule (a .scale)) (pos 0) (i .0) e (onward-stops (plain-rule (a .scale)) (pos 0) (i .0) l (c .before .before .before .before .before .decode-ahead .ensures) t) in
+    let inside : a .inputs + c .before .before .before .before .before .before .before .before .loop .k ≤ length (c .before .before .before .before .before .before .before .before .loop .work) = omega (arith, c .before .before .before .before .before .before .before .before .before .before .pre .3, i .0 .few, i .1 .size) in
+    (rw r (ap (refuses 11) (place-of (a .inputs) (c .before .before .before .before .before .before .before .before .loop .k) (c .before .before .before .before .before .before .before .before .loop .work) inside)), rw r (held-over (i .1) inside), tt)
 
 pub walk-spec : {M : Type 1} → statement M
-walk-spec = tie.close (tie.spec Inv-loop μ-loop loop-holds add-made decode-requires step-requires enum-told enum-known-v mul-v slice-set-from-v add-k loop-less loop-again same-length returns same-length-2 returns-2)
+walk-spec = tie.close (tie.spec Inv-loop μ-loop loop-holds add-made ahead-requires decode-ahead-requires step-requires enum-told enum-known-v mul-v slice-set-from-v add-k loop-less loop-again same-length returns same-length-2 returns-2)
