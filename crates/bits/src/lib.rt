@@ -47,7 +47,7 @@ fn rest(s: &[u8], i: usize) -> u64
 }
 
 // The eight bytes from the i-th on, as one number; past the end they are 0.
-pub fn window(s: &[u8], i: usize) -> u64
+fn window(s: &[u8], i: usize) -> u64
     requires { ⌜ i ≤ 2 ^ 32 ⌝ }
     ensures { λ r. ⌜ (r ≡ window-number (now (s .entry)) i) × WindowBytes (now (s .entry)) i ⌝ }
 {

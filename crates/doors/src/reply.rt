@@ -38,7 +38,7 @@ fn refused(number: u32, place: usize) -> MarginsReply
     }
 }
 
-pub fn replied(r: Reply) -> MarginsReply
+pub(crate) fn replied(r: Reply) -> MarginsReply
     requires { ⌜ outputs-told (reply-said r) ≤ 16 ⌝ }
     ensures { λ x. ⌜ x ≡ margins-reply (reply-said r) ⌝ }
 {
@@ -55,7 +55,7 @@ pub fn replied(r: Reply) -> MarginsReply
     }
 }
 
-pub fn headed(h: Header) -> MarginsFormula
+pub(crate) fn headed(h: Header) -> MarginsFormula
     requires { ⌜ InLimits h ⌝ }
     ensures { λ x. ⌜ x ≡ margins-formula (value h) ⌝ }
 {

@@ -4,7 +4,7 @@ ghost use Rattle.jobs.specs.Jobs.{has-room};
 use packed::Header;
 
 // m+l places to work in and n for the outputs.
-pub fn enough(h: Header, work: usize, output: usize) -> bool
+pub(crate) fn enough(h: Header, work: usize, output: usize) -> bool
     ensures { λ r. ⌜ r ≡ has-room h work output ⌝ }
 {
     if work < h.inputs {

@@ -10,7 +10,7 @@ use bits::Cursor;
 use bits::Field;
 
 // A field that is at least `from` and below `below`, or the refusal; x is what is ahead of `start`.
-pub fn field_in(
+pub(crate) fn field_in(
     s: &[u8],
     x: u64,
     start: Cursor,

@@ -21,7 +21,7 @@ fn refused(t: Tested) -> HeaderRead
     }
 }
 
-pub fn read(s: &[u8]) -> HeaderRead
+pub(crate) fn read(s: &[u8]) -> HeaderRead
     ensures { λ r. ⌜ (header-answer (now (s .entry)) r ≡ read header (bits (now (s .entry)))) × AfterHeader r ⌝ }
 {
     let start = Cursor { at: 0 };

@@ -15,7 +15,7 @@ use bits::Cursor;
 use bits::Field;
 
 // `count` instructions, the first of which makes value `inputs`.
-pub fn pass_instructions(s: &[u8], c: Cursor, inputs: usize, count: usize) -> Passed
+pub(crate) fn pass_instructions(s: &[u8], c: Cursor, inputs: usize, count: usize) -> Passed
     requires { ⌜ (c .at ≤ 32) × (inputs ≤ 16) × (count ≤ 512) ⌝ }
     ensures { λ r. ⌜ (passed-answer (now (s .entry)) r ≡ place (read (program count inputs) (before (now (s .entry)) c))) × PassedBy (35 * count) c r ⌝ }
 {
@@ -36,7 +36,7 @@ pub fn pass_instructions(s: &[u8], c: Cursor, inputs: usize, count: usize) -> Pa
 }
 
 // `count` outputs, each naming a value below `below`.
-pub fn pass_outputs(s: &[u8], c: Cursor, below: usize, count: usize) -> Passed
+pub(crate) fn pass_outputs(s: &[u8], c: Cursor, below: usize, count: usize) -> Passed
     requires { ⌜ (c .at ≤ 2 ^ 20) × (count ≤ 16) ⌝ }
     ensures { λ r. ⌜ (passed-answer (now (s .entry)) r ≡ place (read (results count below) (before (now (s .entry)) c))) × PassedBy (10 * count) c r ⌝ }
 {
@@ -66,7 +66,7 @@ pub fn pass_outputs(s: &[u8], c: Cursor, below: usize, count: usize) -> Passed
 }
 
 // Whether the bits left are fewer than eight, and all zero.
-pub fn padded(s: &[u8], c: Cursor) -> bool
+pub(crate) fn padded(s: &[u8], c: Cursor) -> bool
     requires { ⌜ c .at ≤ 2 ^ 20 ⌝ }
     ensures { λ r. ⌜ r ≡ is-padding (before (now (s .entry)) c) ⌝ }
 {

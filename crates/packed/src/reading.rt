@@ -16,7 +16,7 @@ use bits::Cursor;
 use bits::Field;
 
 // 32 bits in two's complement.
-pub fn signed(n: u64) -> i64
+pub(crate) fn signed(n: u64) -> i64
     requires { ⌜ n < 2 ^ 32 ⌝ }
     ensures { λ r. ⌜ r ≡ twos-complement n ⌝ }
 {
@@ -66,7 +66,7 @@ fn read_operands(s: &[u8], x: u64, start: Cursor, c: Cursor, below: usize) -> Op
 }
 
 // The instruction that a code from 2 on makes of two operands.
-pub fn combine(code: u64, i: usize, j: usize) -> Instruction
+pub(crate) fn combine(code: u64, i: usize, j: usize) -> Instruction
     ensures { λ r. ⌜ r ≡ combined code i j ⌝ }
 {
     if code == 2 {
@@ -139,7 +139,7 @@ fn read_ahead(s: &[u8], x: u64, c: Cursor, below: usize) -> InstructionRead
     )
 }
 
-pub fn read_instruction(s: &[u8], c: Cursor, below: usize) -> InstructionRead
+pub(crate) fn read_instruction(s: &[u8], c: Cursor, below: usize) -> InstructionRead
     requires { ⌜ c .at ≤ 2 ^ 30 ⌝ }
     ensures { λ r. ⌜ (instruction-answer (now (s .entry)) r ≡ read (instruction below) (before (now (s .entry)) c)) × InstructionPast 35 c r ⌝ }
 {

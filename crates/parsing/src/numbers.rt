@@ -30,7 +30,7 @@ fn read_digits(s: &[u8]) -> Digits
     Digits::Got(n)
 }
 
-pub fn read(s: &[u8]) -> Number
+pub(crate) fn read(s: &[u8]) -> Number
     ensures { λ r. ⌜ number-answer r ≡ number (now (s .entry)) ⌝ }
 {
     if s.len() < 1 {

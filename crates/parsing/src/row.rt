@@ -28,7 +28,7 @@ fn one_less(j: usize) -> usize
 }
 
 // Number j of a line of k numbers.
-pub fn read(line: &[u8], k: usize, j: usize) -> Number
+pub(crate) fn read(line: &[u8], k: usize, j: usize) -> Number
     requires { ⌜ j < k ⌝ }
     ensures { λ r. ⌜ number-answer r ≡ number-of j (row k (now (line .entry))) ⌝ }
 {

@@ -29,7 +29,7 @@ fn put_value(x: i64, out: &mut [u8], at: usize) -> usize
     put_signed(x, out, next)
 }
 
-pub fn put_plain_line(i: usize, x: i64, out: &mut [u8], at: usize) -> usize
+pub(crate) fn put_plain_line(i: usize, x: i64, out: &mut [u8], at: usize) -> usize
     requires { ⌜ at + 90 ≤ length (now out) ⌝ }
     ensures { λ r. ⌜ Wrote (line plain-fields i x) at (now (out .entry)) (now (out .exit)) r ⌝ }
 {
@@ -38,7 +38,7 @@ pub fn put_plain_line(i: usize, x: i64, out: &mut [u8], at: usize) -> usize
     put(b'\n', out, valued)
 }
 
-pub fn put_ball_line(i: usize, centre: i64, margin: u64, out: &mut [u8], at: usize) -> usize
+pub(crate) fn put_ball_line(i: usize, centre: i64, margin: u64, out: &mut [u8], at: usize) -> usize
     requires { ⌜ at + 90 ≤ length (now out) ⌝ }
     ensures { λ r. ⌜ Wrote (line ball-fields i (ball centre margin)) at (now (out .entry)) (now (out .exit)) r ⌝ }
 {
@@ -48,7 +48,7 @@ pub fn put_ball_line(i: usize, centre: i64, margin: u64, out: &mut [u8], at: usi
     put(b'\n', out, margined)
 }
 
-pub fn put_matryoshka_line(
+pub(crate) fn put_matryoshka_line(
     i: usize,
     middle: i64,
     stray: u64,

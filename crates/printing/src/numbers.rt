@@ -17,7 +17,7 @@ pub fn put_number(n: u64, out: &mut [u8], at: usize) -> usize
     put(b'0' + (n % 10) as u8, out, next)
 }
 
-pub fn put_signed(x: i64, out: &mut [u8], at: usize) -> usize
+pub(crate) fn put_signed(x: i64, out: &mut [u8], at: usize) -> usize
     requires { ⌜ at + 21 ≤ length (now out) ⌝ }
     ensures { λ r. ⌜ Wrote (signed x) at (now (out .entry)) (now (out .exit)) r ⌝ }
 {

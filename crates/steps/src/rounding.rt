@@ -22,7 +22,7 @@ pub fn within(size: u64, stray: u64, margin: u64) -> bool
 }
 
 // The same in one test, where the sum fits.
-pub fn sum_within(size: u64, stray: u64, margin: u64) -> bool
+pub(crate) fn sum_within(size: u64, stray: u64, margin: u64) -> bool
     requires { ⌜ size + stray + margin < 2 ^ 64 ⌝ }
     ensures { λ r. ⌜ r ≡ leb (size + stray + margin) M ⌝ }
 {
@@ -38,7 +38,7 @@ fn part(scale: u32, halvings: u32, less: u64) -> u64
 }
 
 // Q.
-pub fn unit(scale: u32) -> u64
+fn unit(scale: u32) -> u64
     requires { ⌜ scale ≤ top-scale ⌝ }
     ensures { λ r. ⌜ r ≡ Q scale ⌝ }
 {
@@ -46,7 +46,7 @@ pub fn unit(scale: u32) -> u64
 }
 
 // h.
-pub fn half(scale: u32) -> u64
+pub(crate) fn half(scale: u32) -> u64
     requires { ⌜ scale ≤ top-scale ⌝ }
     ensures { λ r. ⌜ r ≡ h scale ⌝ }
 {
@@ -54,7 +54,7 @@ pub fn half(scale: u32) -> u64
 }
 
 // Half a unit goes on before the floor, so a tie goes towards plus infinity.
-pub fn round(scale: u32, p: i64) -> i64
+fn round(scale: u32, p: i64) -> i64
     requires { ⌜ (scale ≤ top-scale) × (natAbs p ≤ M * M) ⌝ }
     ensures { λ r. ⌜ r ≡ Round scale p ⌝ }
 {
@@ -62,7 +62,7 @@ pub fn round(scale: u32, p: i64) -> i64
 }
 
 // The largest remainder goes on before the floor, so only a whole number of units stays as it is.
-pub fn up(scale: u32, p: u64) -> u64
+pub(crate) fn up(scale: u32, p: u64) -> u64
     requires { ⌜ (scale ≤ top-scale) × (p ≤ M * M + 2 ^ top-scale) ⌝ }
     ensures { λ r. ⌜ r ≡ Up scale p ⌝ }
 {
@@ -70,7 +70,7 @@ pub fn up(scale: u32, p: u64) -> u64
 }
 
 // Round(a·b).
-pub fn product(scale: u32, a: i64, b: i64) -> i64
+pub(crate) fn product(scale: u32, a: i64, b: i64) -> i64
     requires { ⌜ (scale ≤ top-scale) × (natAbs a ≤ M) × (natAbs b ≤ M) ⌝ }
     ensures { λ r. ⌜ r ≡ Round scale (a *ℤ b) ⌝ }
 {
@@ -83,7 +83,7 @@ pub struct Rounded {
     pub lost: u64,
 }
 
-pub fn product_with_loss(scale: u32, a: i64, b: i64) -> Rounded
+pub(crate) fn product_with_loss(scale: u32, a: i64, b: i64) -> Rounded
     requires { ⌜ (scale ≤ top-scale) × (natAbs a ≤ M) × (natAbs b ≤ M) ⌝ }
     ensures { λ r. ⌜ (r .centre ≡ Round scale (a *ℤ b)) × (r .lost ≡ natAbs (a *ℤ b -ℤ Round scale (a *ℤ b) *ℤ pos (Q scale))) × (r .lost ≤ h scale) ⌝ }
 {
@@ -94,7 +94,7 @@ pub fn product_with_loss(scale: u32, a: i64, b: i64) -> Rounded
 }
 
 // p·s + q·r, which stays below M² because r is a part of p: the doubt of a product before it is rounded up.
-pub fn spread(p: u64, s: u64, q: u64, r: u64) -> u64
+pub(crate) fn spread(p: u64, s: u64, q: u64, r: u64) -> u64
     requires { ⌜ (p ≤ M) × (q + s ≤ M) × (r ≤ p) ⌝ }
     ensures { λ n. ⌜ (n ≡ p * s + q * r) × (n ≤ M * M) ⌝ }
 {

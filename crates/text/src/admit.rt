@@ -47,7 +47,7 @@ fn tell(formula: &[u8], middles: &[i64], strays: &[i64], margins: &[i64], out: &
     }
 }
 
-pub fn answer(formula: &[u8], lines: &[u8], out: &mut [u8]) -> usize
+pub(crate) fn answer(formula: &[u8], lines: &[u8], out: &mut [u8]) -> usize
     requires { ⌜ (length (now lines) ≤ longest-input) × (2048 ≤ length (now out)) ⌝ }
     ensures { λ r. ⌜ Wrote (if-rows admit (now (formula .entry)) (rows-of 3 (now (lines .entry)))) 0 (now (out .entry)) (now (out .exit)) r ⌝ }
 {

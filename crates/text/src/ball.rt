@@ -42,7 +42,7 @@ fn tell(formula: &[u8], centres: &[i64], margins: &[i64], out: &mut [u8]) -> usi
     }
 }
 
-pub fn answer(formula: &[u8], lines: &[u8], out: &mut [u8]) -> usize
+pub(crate) fn answer(formula: &[u8], lines: &[u8], out: &mut [u8]) -> usize
     requires { ⌜ (length (now lines) ≤ longest-input) × (2048 ≤ length (now out)) ⌝ }
     ensures { λ r. ⌜ Wrote (if-rows ball (now (formula .entry)) (rows-of 2 (now (lines .entry)))) 0 (now (out .entry)) (now (out .exit)) r ⌝ }
 {

@@ -14,7 +14,7 @@ use printing::bytes::put;
 use printing::bytes::put_word;
 use printing::numbers::put_number;
 
-pub fn outcome(r: Reply) -> Outcome
+pub(crate) fn outcome(r: Reply) -> Outcome
     ensures { λ o. ⌜ o ≡ outcome-of (reply-said r) ⌝ }
 {
     match r {
@@ -36,14 +36,14 @@ fn put_line(word: &[u8], n: u64, out: &mut [u8]) -> usize
     put(10, out, counted)
 }
 
-pub fn put_refused(n: u64, out: &mut [u8]) -> usize
+pub(crate) fn put_refused(n: u64, out: &mut [u8]) -> usize
     requires { ⌜ 30 ≤ length (now out) ⌝ }
     ensures { λ r. ⌜ Wrote (refused-text n) 0 (now (out .entry)) (now (out .exit)) r ⌝ }
 {
     put_line(b"refused ", n, out)
 }
 
-pub fn put_ok(n: usize, out: &mut [u8]) -> usize
+pub(crate) fn put_ok(n: usize, out: &mut [u8]) -> usize
     requires { ⌜ 30 ≤ length (now out) ⌝ }
     ensures { λ r. ⌜ Wrote (ok-text n) 0 (now (out .entry)) (now (out .exit)) r ⌝ }
 {
