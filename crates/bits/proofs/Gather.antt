@@ -18,7 +18,8 @@ length-bits (b ∷ s) = length-append (to-bits 8 b) (bits s) ∙ (omega (arith, 
 pub bits-append : (s t : List ℕ) → bits (s ++ t) ≡ bits s ++ bits t
 unfolding bits
 bits-append [] t = refl
-bits-append (b ∷ s) t = ap (λ (l : List ℕ). to-bits 8 b ++ l) (bits-append s t) ∙ sym (append-assoc (to-bits 8 b) (bits s) (bits t))
+bits-append (b ∷ s) t =
+    ap (λ (l : List ℕ). to-bits 8 b ++ l) (bits-append s t) ∙ sym (append-assoc (to-bits 8 b) (bits s) (bits t))
 
 pub bits-drop : (i : ℕ) (s : List ℕ) → bits (drop i s) ≡ drop (8 * i) (bits s)
 unfolding bits
@@ -29,7 +30,8 @@ bits-drop (suc i) [] = sym (drop-none (8 * suc i))
     drop-none zero = refl
     drop-none (suc n) = refl
 bits-drop (suc i) (b ∷ s) =
-    bits-drop i s ∙ sym (drop-append-add (to-bits 8 b) (bits s) (8 * i)) ∙ ap (λ (n : ℕ). drop n (to-bits 8 b ++ bits s)) far
+    bits-drop i s ∙ sym (drop-append-add (to-bits 8 b) (bits s) (8 * i))
+    ∙ ap (λ (n : ℕ). drop n (to-bits 8 b ++ bits s)) far
   where
     far : length (to-bits 8 b) + 8 * i ≡ 8 * suc i
     far = omega (arith, length-to-bits 8 b)
@@ -37,7 +39,8 @@ bits-drop (suc i) (b ∷ s) =
 -- a part of a list lies in its front, if it is that long
 part-front : (o w : ℕ) (xs ys : List ℕ) → o + w ≤ length xs → take w (drop o (xs ++ ys)) ≡ take w (drop o xs)
 part-front o w xs ys l =
-    ap (take w) (drop-append-le o xs ys (omega arith)) ∙ take-append-le w (drop o xs) ys (omega (arith, length-drop o xs))
+    ap (take w) (drop-append-le o xs ys (omega arith))
+    ∙ take-append-le w (drop o xs) ys (omega (arith, length-drop o xs))
 
 -- the first n of a list, with zeros where it is shorter
 abbrev firsts : ℕ → List ℕ → List ℕ
@@ -50,9 +53,11 @@ firsts-front zero t = ([], refl)
 firsts-front (suc n) [] = (0 ∷ firsts n [], refl)
 firsts-front (suc n) (b ∷ t) = let r = firsts-front n t in (r .0, ap (λ (l : List ℕ). b ∷ l) (r .1))
 
-firsts-part : (n o w : ℕ) (t : List ℕ) → o + w ≤ 8 * n → o + w ≤ 8 * length t → take w (drop o (bits (firsts n t))) ≡ take w (drop o (bits t))
+firsts-part : (n o w : ℕ) (t : List ℕ) → o + w ≤ 8 * n → o + w ≤ 8 * length t
+    → take w (drop o (bits (firsts n t))) ≡ take w (drop o (bits t))
 firsts-part n o w t ln lt =
-    ap (λ (l : List ℕ). take w (drop o l)) (ap bits (firsts-front n t .1) ∙ bits-append (take n t) (firsts-front n t .0))
+    ap (λ (l : List ℕ). take w (drop o l))
+    (ap bits (firsts-front n t .1) ∙ bits-append (take n t) (firsts-front n t .0))
     ∙ part-front o w (bits (take n t)) (bits (firsts-front n t .0)) long
     ∙ sym (part-front o w (bits (take n t)) (bits (drop n t)) long)
     ∙ ap (λ (l : List ℕ). take w (drop o l)) (sym (bits-append (take n t) (drop n t)) ∙ ap bits (take-append-drop n t))
@@ -61,9 +66,9 @@ firsts-part n o w t ln lt =
     long = omega (arith, length-bits (take n t), length-take n t)
 
 -- the first n from the i-th on, one by one
-abbrev run : ℕ → ℕ → List ℕ → List ℕ
-run zero i s = []
-run (suc n) i s = getD s i 0 ∷ run n (suc i) s
+abbrev bytes-from : ℕ → ℕ → List ℕ → List ℕ
+bytes-from zero i s = []
+bytes-from (suc n) i s = getD s i 0 ∷ bytes-from n (suc i) s
 
 one-more : (n i : ℕ) (s : List ℕ) → firsts (suc n) (drop i s) ≡ getD s i 0 ∷ firsts n (drop (suc i) s)
 one-more n zero [] = refl
@@ -71,9 +76,9 @@ one-more n zero (b ∷ s) = refl
 one-more n (suc i) [] = refl
 one-more n (suc i) (b ∷ s) = one-more n i s
 
-firsts-run : (n i : ℕ) (s : List ℕ) → firsts n (drop i s) ≡ run n i s
-firsts-run zero i s = refl
-firsts-run (suc n) i s = one-more n i s ∙ ap (λ (l : List ℕ). getD s i 0 ∷ l) (firsts-run n (suc i) s)
+firsts-from : (n i : ℕ) (s : List ℕ) → firsts n (drop i s) ≡ bytes-from n i s
+firsts-from zero i s = refl
+firsts-from (suc n) i s = one-more n i s ∙ ap (λ (l : List ℕ). getD s i 0 ∷ l) (firsts-from n (suc i) s)
 
 number-byte : (b : ℕ) (t : List ℕ) → b < 256 → number (bits (b ∷ t)) ≡ b * 2 ^ (8 * length t) + number (bits t)
 unfolding bits
@@ -86,7 +91,8 @@ unfolding number bits
 number-none = refl
 
 eight-bytes : (a b c d e f g h : ℕ) → a < 256 → b < 256 → c < 256 → d < 256 → e < 256 → f < 256 → g < 256 → h < 256
-    → number (bits (a ∷ b ∷ c ∷ d ∷ e ∷ f ∷ g ∷ h ∷ [])) ≡ a * 2 ^ 56 + b * 2 ^ 48 + c * 2 ^ 40 + d * 2 ^ 32 + e * 2 ^ 24 + f * 2 ^ 16 + g * 2 ^ 8 + h
+    → number (bits (a ∷ b ∷ c ∷ d ∷ e ∷ f ∷ g ∷ h ∷ []))
+    ≡ a * 2 ^ 56 + b * 2 ^ 48 + c * 2 ^ 40 + d * 2 ^ 32 + e * 2 ^ 24 + f * 2 ^ 16 + g * 2 ^ 8 + h
 eight-bytes a b c d e f g h ha hb hc hd he hf hg hh =
     omega (
       arith,
@@ -102,13 +108,16 @@ eight-bytes a b c d e f g h ha hb hc hd he hf hg hh =
     )
 
 window-is : (s : List ℕ) (i : ℕ) → WindowBytes s i → number (bits (firsts 8 (drop i s))) ≡ window-number s i
-window-is s i w = ap (λ (l : List ℕ). number (bits l)) (firsts-run 8 i s) ∙ in-order (w .0) (w .1) (w .2) (w .3) (w .4) (w .5) (w .6) (w .7)
+window-is s i w =
+    ap (λ (l : List ℕ). number (bits l)) (firsts-from 8 i s)
+    ∙ in-order (w .0) (w .1) (w .2) (w .3) (w .4) (w .5) (w .6) (w .7)
   where
     at : ℕ → ℕ
     at k = getD s k 0
 
-    in-order : at i < 256 → at (i + 1) < 256 → at (i + 2) < 256 → at (i + 3) < 256 → at (i + 4) < 256 → at (i + 5) < 256 → at (i + 6) < 256 → at (i + 7) < 256
-        → number (bits (run 8 i s)) ≡ window-number s i
+    in-order : at i < 256 → at (i + 1) < 256 → at (i + 2) < 256 → at (i + 3) < 256 → at (i + 4) < 256 → at (i + 5) < 256
+        → at (i + 6) < 256 → at (i + 7) < 256
+        → number (bits (bytes-from 8 i s)) ≡ window-number s i
     in-order = simp towards-suc (eight-bytes (at i) (at (suc i)) _ _ _ _ _ _)
 
 length-firsts : (n : ℕ) (t : List ℕ) → length (firsts n t) ≡ n
@@ -116,13 +125,16 @@ length-firsts zero t = refl
 length-firsts (suc n) [] = ap suc (length-firsts n [])
 length-firsts (suc n) (b ∷ t) = ap suc (length-firsts n t)
 
--- a field from a window: the eight bytes from the one that the cursor stands in hold the field that starts j bits further on
+-- a field from a window: the eight bytes from the one that the cursor stands in hold the field that starts j bits
+-- further on
 pub field-gather : (s : List ℕ) (at j w : ℕ) → at % 8 + j + w ≤ 64 → at + j + w ≤ 8 * length s → WindowBytes s (at / 8)
     → number (take w (drop (at + j) (bits s))) ≡ window-number s (at / 8) / 2 ^ (64 - at % 8 - j - w) % 2 ^ w
 field-gather s at j w near inside are =
-    ap (λ (l : List ℕ). number (take w l)) (ap (λ (n : ℕ). drop n (bits s)) whole ∙ sym (drop-drop o (8 * i) (bits s)) ∙ ap (drop o) (sym (bits-drop i s)))
+    ap (λ (l : List ℕ). number (take w l))
+    (ap (λ (n : ℕ). drop n (bits s)) whole ∙ sym (drop-drop o (8 * i) (bits s)) ∙ ap (drop o) (sym (bits-drop i s)))
     ∙ ap number (sym (firsts-part 8 o w (drop i s) (omega arith) (omega (arith, length-drop i s))))
-    ∙ number-cut (bits-are (firsts 8 (drop i s))) o w (64 - at % 8 - j - w) (omega (arith, length-bits (firsts 8 (drop i s)), length-firsts 8 (drop i s)))
+    ∙ number-cut (bits-are (firsts 8 (drop i s))) o w (64 - at % 8 - j - w)
+    (omega (arith, length-bits (firsts 8 (drop i s)), length-firsts 8 (drop i s)))
     ∙ ap (λ (n : ℕ). n / 2 ^ (64 - at % 8 - j - w) % 2 ^ w) (window-is s i are)
   where
     i : ℕ

@@ -3,12 +3,13 @@ use mathlib.Core.Path.{_≡_}
 use mathlib.Core.List.{List}
 use Prim.Native.Nat.{ℕ, _+_, _-_, _/_, _%_, _^_, _≤_, _<_}
 use lib.ListN.{length, take, drop}
-use Rattle.rules.specs.Answer.{Answer, value, refused}
+use Rattle.refusals.specs.declared.Refusal.the-variants as refusal
+use Rattle.refusals.specs.Answer.{Answer, value, refuse}
 use Rattle.bits.specs.declared.Cursor.{Cursor}
 use Rattle.bits.specs.declared.Field.{Field}
 use Rattle.bits.specs.declared.Field.the-variants.{Got, Ended}
 use Rattle.bits.specs.Bits.{bits, number}
-use Rattle.bits.specs.Reader.{Read, ended}
+use Rattle.bits.specs.Reader.{Read}
 
 -- the bits that a cursor has before it
 abbrev pub before : List ℕ → Cursor → List ℕ
@@ -16,7 +17,7 @@ before s c = drop (c .at) (bits s)
 
 abbrev pub field-answer : List ℕ → Field → Answer (Read ℕ)
 field-answer s (Got n c) = value (record { got = n; left = before s c })
-field-answer s Ended = refused ended
+field-answer s Ended = refuse refusal.Ended
 
 -- where a cursor stands after a field of w bits, which is below 2^w
 abbrev pub Advanced : Cursor → ℕ → Field → Type 0
@@ -25,10 +26,5 @@ Advanced c w Ended = Unit {0}
 
 -- x has the first of these bits on top: a field that starts o bits on and ends within 57 is cut out of x by its place
 abbrev pub Ahead : List ℕ → ℕ → Type 0
-Ahead bs x = (o w : ℕ) → 1 ≤ w → o + w ≤ 57 → o + w ≤ length bs → x / 2 ^ (64 - (o + w)) % 2 ^ w ≡ number (take w (drop o bs))
-
--- what is ahead of `start`, which is x, has the w bits from c on
-pub record Covers (s : List ℕ) (start : Cursor) (x : ℕ) (c : Cursor) (w : ℕ) : Type 0 where
-  pub from : start .at ≤ c .at
-  pub to : c .at + w ≤ start .at + 57
-  pub ahead : Ahead (before s start) x
+Ahead bs x =
+    (o w : ℕ) → 1 ≤ w → o + w ≤ 57 → o + w ≤ length bs → x / 2 ^ (64 - (o + w)) % 2 ^ w ≡ number (take w (drop o bs))

@@ -1,9 +1,9 @@
 // A bit cursor over bytes. A field is gathered from its bytes at once, whatever bit it starts at.
 ghost use mathlib.Core.Path.{_≡_};
 ghost use Prim.Native.Nat.{_+_, _*_, _^_, _≤_, _<_};
-ghost use Rattle.bits.specs.Bits.{window-number, WindowBytes};
+ghost use Rattle.bits.specs.Bits.{IsWindow};
 ghost use Rattle.bits.specs.Reader.{field};
-ghost use Rattle.bits.specs.Fields.{before, field-answer, Advanced, Ahead, Covers};
+ghost use Rattle.bits.specs.Fields.{before, field-answer, Advanced, Ahead};
 
 // So many bits from the first.
 pub struct Cursor {
@@ -16,10 +16,12 @@ pub enum Field {
     Ended,
 }
 
-// Eight bytes as one number, the first on top. The sum is a tree, since a compiler sees one load in a tree, and none in a long chain.
+// Eight bytes as one number, the first on top. A compiler sees one load in a tree of sums, and none in a long chain.
 fn joined(a: u64, b: u64, c: u64, d: u64, e: u64, f: u64, g: u64, h: u64) -> u64
-    requires { ⌜ (a < 256) × (b < 256) × (c < 256) × (d < 256) × (e < 256) × (f < 256) × (g < 256) × (h < 256) ⌝ }
-    ensures { λ r. ⌜ r ≡ a * 2 ^ 56 + b * 2 ^ 48 + c * 2 ^ 40 + d * 2 ^ 32 + e * 2 ^ 24 + f * 2 ^ 16 + g * 2 ^ 8 + h ⌝ }
+    requires { ⌜ (a < 256) × (b < 256) × (c < 256) × (d < 256)
+        × (e < 256) × (f < 256) × (g < 256) × (h < 256) ⌝ }
+    ensures { λ r. ⌜ r ≡ a * 2 ^ 56 + b * 2 ^ 48 + c * 2 ^ 40 + d * 2 ^ 32
+        + e * 2 ^ 24 + f * 2 ^ 16 + g * 2 ^ 8 + h ⌝ }
 {
     let upper = (a * 0x100_0000_0000_0000 + b * 0x1_0000_0000_0000)
         + (c * 0x100_0000_0000 + d * 0x1_0000_0000);
@@ -35,7 +37,7 @@ fn wide(b: u8) -> u64
 
 // The same of bytes that may end, from the last to the first: the first is put on top of the others.
 fn rest(s: &[u8], i: usize) -> u64
-    ensures { λ r. ⌜ (r ≡ window-number (now (s .entry)) i) × WindowBytes (now (s .entry)) i ⌝ }
+    ensures { λ r. ⌜ IsWindow (now (s .entry)) i r ⌝ }
 {
     let mut v: u64 = 0;
     let mut k = s.len();
@@ -49,7 +51,7 @@ fn rest(s: &[u8], i: usize) -> u64
 // The eight bytes from the i-th on, as one number; past the end they are 0.
 fn window(s: &[u8], i: usize) -> u64
     requires { ⌜ i ≤ 2 ^ 32 ⌝ }
-    ensures { λ r. ⌜ (r ≡ window-number (now (s .entry)) i) × WindowBytes (now (s .entry)) i ⌝ }
+    ensures { λ r. ⌜ IsWindow (now (s .entry)) i r ⌝ }
 {
     if i + 8 <= s.len() {
         joined(
@@ -77,25 +79,17 @@ pub fn ahead(s: &[u8], c: Cursor) -> u64
 }
 
 impl Cursor {
-    // The field of so many bits from here, with the cursor past it; x is what is ahead of `start`.
-    pub fn field_of(self, s: &[u8], x: u64, start: Cursor, width: u32) -> Field
-        requires { ⌜ (1 ≤ width) × (width ≤ 32) × (self .at ≤ 2 ^ 32) × Covers (now s) start x self width ⌝ }
-        ensures { λ r. ⌜ (field-answer (now (s .entry)) r ≡ field width (before (now (s .entry)) self)) × Advanced self width r ⌝ }
+    // The field of so many bits from here, with the cursor past it.
+    pub fn field(self, s: &[u8], width: u32) -> Field
+        requires { ⌜ (1 ≤ width) × (width ≤ 32) × (self .at ≤ 2 ^ 32) ⌝ }
+        ensures { λ r. ⌜ (field-answer (now (s .entry)) r ≡ field width (before (now (s .entry)) self))
+            × Advanced self width r ⌝ }
     {
         let end = self.at + width as usize;
         if s.len() < (end + 7) / 8 {
             return Field::Ended;
         }
-        let below = 64 - (end - start.at) as u32;
-        let n = (x >> below) % (1u64 << width);
+        let n = (ahead(s, self) >> (64 - width)) % (1u64 << width);
         Field::Got(n, Cursor { at: end })
-    }
-
-    // The same, without what is ahead.
-    pub fn field(self, s: &[u8], width: u32) -> Field
-        requires { ⌜ (1 ≤ width) × (width ≤ 32) × (self .at ≤ 2 ^ 32) ⌝ }
-        ensures { λ r. ⌜ (field-answer (now (s .entry)) r ≡ field width (before (now (s .entry)) self)) × Advanced self width r ⌝ }
-    {
-        self.field_of(s, ahead(s, self), self, width)
     }
 }

@@ -2,167 +2,132 @@
 use mathlib.Core.Path.{_≡_, refl, sym, _∙_, ap, ap₂, subst}
 use mathlib.Core.Bool.{Bool, true}
 use mathlib.Core.List.{List, [], _∷_, map}
-use Prim.Native.Nat.{ℕ, _+_}
+use Prim.Native.Nat.{ℕ}
+use native.Mathlib.Nat.{le-trans, mul-le-mul-right}
 use native.Mathlib.Omega.{arith}
 use lib.IntN.{ℤ, pos, natAbs}
-use lib.ListN.{length, getD, take, length-map}
+use lib.ListN.{getD, take, length-map}
+use Rattle.lists.specs.Each.{Each}
+use Rattle.lists.specs.Joined.{Rel}
+use Rattle.lists.proofs.Joined.{rel-length, rel-picked}
+use Rattle.refusals.specs.declared.Reply.{Reply}
+use Rattle.refusals.specs.declared.Reply.the-variants.{Done}
 use Rattle.rules.specs.declared.Ball.{Ball}
 use Rattle.rules.specs.declared.Matryoshka.{Matryoshka}
 use Rattle.rules.specs.Values.{Fraction, Contains, Covers}
 use Rattle.rules.specs.Plain.{plain-rule}
-use Rattle.rules.specs.Balls.{ball, ball-rule}
-use Rattle.rules.specs.Matryoshki.{matryoshka-rule}
-use Rattle.packed.specs.Meaning.{Formula, formula}
-use Rattle.packed.specs.WellFormed.{WellFormed, Each, Smaller}
-use Rattle.packed.proofs.WellFormed.{accepted-well-formed}
-use Rattle.lists.specs.Over.{over}
+use Rattle.rules.specs.Lists.{balls, centres-of, no-ball, matryoshki, static-margins-of, no-matryoshka}
+use Rattle.rules.proofs.Lists.{centre-part, static-part, balls-centres}
+use Rattle.lists.proofs.PartOf.{part-front}
+use Rattle.formulas.specs.Formula.{Smaller}
 use Rattle.formulas.specs.Run.{finished, run}
-use Rattle.formulas.specs.Job.{Result, done, answered, said, outputs-of}
-use Rattle.formulas.specs.Exactly.{nought, ExactRun, Rel}
-use Rattle.formulas.proofs.Relations.{rel-length}
+use Rattle.formulas.specs.Readings.{BallReadings, Domain, plain-tested, ball-tested, domain-tested, if-fit}
+use Rattle.formulas.specs.Kinds.{plain-kind, ball-kind, matryoshka-kind}
+use Rattle.formulas.specs.Job.{Lent, Kept}
+use Rattle.formulas.specs.ExactRun.{nought, ExactRun}
 use Rattle.formulas.proofs.Enclosure.{run-encloses}
-use Rattle.formulas.proofs.Covering.{centres, CoveredRun, run-covers}
-use Rattle.walks.specs.Lists.{balls, centres-of, matryoshki, static-margins-of, nothing}
-use Rattle.walks.proofs.Parts.{balls-centres}
-use Rattle.jobs.specs.declared.Reply.{Reply}
-use Rattle.jobs.specs.declared.Reply.the-variants.{Done}
-use Rattle.jobs.specs.Jobs.{has-room, plain-tested, plain-job, PlainKept, ball-tested, ball-room, ball-job, BallKept, admit-tested, admit-room, admit-job, AdmitKept}
-use Rattle.jobs.proofs.Lent.{over-front}
-use Rattle.jobs.proofs.PartOf.{field-of}
-use Rattle.demands.specs.Demands.{Chosen, exact-outputs, Within, Admitted}
-use Rattle.demands.proofs.Outcomes.{reply-one-said}
-use Rattle.demands.proofs.Accepted.{Accepted, accepted, answers, all-made}
-use Rattle.demands.proofs.Picked.{rel-picked, covering-margins}
-use Rattle.demands.proofs.Demand2.{balls-counted}
-use Rattle.demands.proofs.Domain.{within-long, within-covered, within-tested}
+use Rattle.formulas.proofs.Covering.{CoveredRun, run-covers}
+use Rattle.formulas.proofs.Fitting.{let-in, ball-fit, balls-even, ball-many}
+use Rattle.formulas.proofs.Lawful.{plain-lawful, matryoshka-lawful}
+use Rattle.packed.specs.Meaning.{formula}
+use Rattle.demands.specs.Demands.{Chosen, exact-outputs, InDomain, LongEnough, Admitted}
+use Rattle.demands.proofs.Answering.{picked, Answers, answers, all-made, AnswersWith, answers-with}
+use Rattle.demands.proofs.Nearness.{near-covered, near-tested}
 
-abbrev no-ball : Ball
-no-ball = ball (pos 0) 0
+-- a ball's centre with the margin of what covers it still contains what the ball contains
+covering-margins : (F : ℕ) {ms : List Matryoshka} {bs : List Ball} {xs : List Fraction} → Rel Covers ms bs → Rel (Contains F) bs xs
+    → Rel (Contains F) (balls (centres-of bs) (static-margins-of ms)) xs
+covering-margins F Rel.none Rel.none = Rel.none
+covering-margins F (Rel.one c cs) (Rel.one {b = x} i is) =
+    Rel.one (record { near = le-trans (i .near) (mul-le-mul-right (x .denominator) (c .doubts)) }) (covering-margins F cs is)
 
--- outputs that a list holds in its front
-front-is : {B : Type 0} (os out : List B) {out₁ : List B} {n : ℕ} → length os ≡ n → out₁ ≡ over os out → take n out₁ ≡ os
-front-is os out {n = n} l e = ap (take n) e ∙ over-front os out l
+module _ {s : List ℕ} {d : Domain} {old new : Lent matryoshka-kind} {n : ℕ} (a : Answers matryoshka-kind s d old new n) where
+  abbrev F : ℕ
+  F = a .on .formula .header .scale
 
-centres-picked : (made : List Ball) (os : List ℕ) → map (λ o. getD (centres made) o (pos 0)) os ≡ centres-of (map (λ o. getD made o no-ball) os)
-centres-picked made [] = refl
-centres-picked made (o ∷ os) = ap₂ _∷_ (field-of no-ball (λ (b : Ball). b .centre) .at made o) (centres-picked made os)
+  abbrev os : List ℕ
+  os = a .on .formula .results
 
-module _ (s : List ℕ) (Cs Rs qs : List ℤ) (workc : List ℤ) (works workm : List ℕ) (outputc : List ℤ) (outputs outputm : List ℕ) where
-  abbrev domain : List Matryoshka
-  domain = matryoshki Cs (map natAbs Rs) (map natAbs qs)
+  let-through : (domain-tested (a .on .formula .header .inputs) d ≡ true) × (matryoshki (d .middles) (map natAbs (d .strays)) (map natAbs (d .margins)) ≡ a .on .values)
+  let-through =
+      let-in (domain-tested (a .on .formula .header .inputs) d) (matryoshki (d .middles) (map natAbs (d .strays)) (map natAbs (d .margins))) (a .started .fits)
 
-  abbrev room : Formula → Bool
-  room f = admit-room (f .header) (length workc) (length works) (length workm) (length outputc) (length outputs) (length outputm)
+  module _ {g : BallReadings} (w : InDomain d g) where
+    abbrev readings : List Ball
+    readings = balls (g .centres) (map natAbs (g .margins))
 
-  abbrev Answered : ℕ → Type 0
-  Answered = Accepted matryoshka-rule nothing (λ f. admit-tested Cs Rs qs (f .header)) domain room (formula s)
+    tested : (plain-tested (a .on .formula .header .inputs) (g .centres) ≡ true) × (ball-tested (a .on .formula .header .inputs) g ≡ true)
+    tested = near-tested (a .on .formula .header .inputs) w (let-through .0)
 
-  abbrev the-admission : Result Matryoshka
-  the-admission = admit-job s Cs Rs qs (length workc) (length works) (length workm) (length outputc) (length outputs) (length outputm)
+    -- the ball run that the admission covers
+    covers : CoveredRun F (a .on .formula .program) readings (a .made)
+    covers =
+        run-covers F no-matryoshka (a .on .formula .program) (subst (λ (ms : List Matryoshka). Rel Covers ms readings) (let-through .1) (near-covered w))
+        (subst (λ (m : ℕ). Each Smaller m (a .on .formula .program)) (sym (matryoshka-lawful .tested-values (a .on .formula .header .inputs) d (a .started .fits) .many))
+        (a .well .operands-smaller))
+        (a .finishes)
 
-  admit-answered : {n : ℕ} → answered n ≡ said the-admission → Answered n
-  unfolding admit-job
-  admit-answered e = accepted matryoshka-rule nothing (λ f. admit-tested Cs Rs qs (f .header)) domain room (formula s) e
+    abbrev outs : List Ball
+    outs = picked no-ball (covers .made) os
 
-  module _ {n : ℕ} (a : Answered n) where
-    abbrev F : ℕ
-    F = a .meant .header .scale
+    bare : run (plain-rule F) (pos 0) (a .on .formula .program) (g .centres) ≡ finished (centres-of (covers .made))
+    bare =
+        ap (λ (l : List ℤ). run (plain-rule F) (pos 0) (a .on .formula .program) l)
+        (sym (balls-centres (g .centres) (map natAbs (g .margins)) (balls-even (ball-fit (a .on .formula .header .inputs) g (tested .1)))))
+        ∙ covers .plain-finishes
 
-    abbrev os : List ℕ
-    os = a .meant .results
+    plain-answers : (lent : Lent plain-kind) {after : Lent plain-kind} (r : Reply) → LongEnough plain-kind (a .on .formula .header) lent
+        → Kept plain-kind (formula s) (g .centres) lent after r → AnswersWith plain-kind (picked (pos 0) (centres-of (covers .made)) os) lent after r n
+    plain-answers lent r u k = answers-with plain-kind s r (a .started .means) (ap (λ (t : Bool). if-fit t (g .centres)) (tested .0)) u bare (a .as-many) k
 
-    abbrev widest : List Matryoshka
-    widest = map (λ o. getD (a .made) o nothing) os
+    ball-answers : (lent : Lent ball-kind) {after : Lent ball-kind} (r : Reply) → LongEnough ball-kind (a .on .formula .header) lent
+        → Kept ball-kind (formula s) g lent after r → AnswersWith ball-kind outs lent after r n
+    ball-answers lent r u k = answers-with ball-kind s r (a .started .means) (ap (λ (t : Bool). if-fit t readings) (tested .1)) u (covers .balls-finish) (a .as-many) k
 
-    left : outputs-of the-admission ≡ widest
-    unfolding admit-job
-    left = ap outputs-of (a .does)
+    -- the bare answers are the centres of the covered outputs
+    each-centre : (ps : List ℕ) → picked (pos 0) (centres-of (covers .made)) ps ≡ centres-of (picked no-ball (covers .made) ps)
+    each-centre [] = refl
+    each-centre (p ∷ ps) = ap₂ _∷_ (centre-part .at (covers .made) p) (each-centre ps)
 
-    well : WellFormed (a .meant)
-    well = accepted-well-formed s (a .means)
+    plain-stand : (lent : Lent plain-kind) {after : Lent plain-kind} {r : Reply} → AnswersWith plain-kind (picked (pos 0) (centres-of (covers .made)) os) lent after r n
+        → take n (after .output) ≡ centres-of outs
+    plain-stand lent {after} p = plain-lawful .front-holds _ n (lent .output) (after .output) (p .many) (p .holds) ∙ each-centre os
 
-    module _ {cs rs : List ℤ} (w : Within Cs Rs qs cs rs) where
-      abbrev readings : List Ball
-      readings = balls cs (map natAbs rs)
+    centres-stand : (lent : Lent ball-kind) {after : Lent ball-kind} {r : Reply} → AnswersWith ball-kind outs lent after r n
+        → take n (after .output .centres) ≡ centres-of outs
+    centres-stand lent p = part-front centre-part outs (lent .output .centres) (p .many) (p .holds .centres-hold)
 
-      tested : (plain-tested cs (a .meant .header) ≡ true) × (ball-tested cs rs (a .meant .header) ≡ true)
-      tested = within-tested (a .meant .header) w (a .fit)
+    covered-outputs : Rel Covers (picked no-matryoshka (a .made) os) outs
+    covered-outputs =
+        rel-picked no-matryoshka no-ball (covers .covered) (a .well .results-below) (omega (arith, all-made matryoshka-lawful a))
 
-      counted : length readings ≡ a .meant .header .inputs
-      counted = balls-counted cs rs (a .meant .header) (tested .1)
+    enclosed-outputs : {xs ys : List Fraction} → Chosen F g xs → ExactRun F (a .on .formula .program) xs ys
+        → Rel (Contains F) outs (exact-outputs (a .on .formula) ys)
+    enclosed-outputs c x =
+        rel-picked no-ball nought
+        (run-encloses F no-ball (a .on .formula .program) c
+        (subst (λ (m : ℕ). Each Smaller m (a .on .formula .program)) (sym (ball-many (ball-fit (a .on .formula .header .inputs) g (tested .1)))) (a .well .operands-smaller))
+        (covers .balls-finish) x)
+        (a .well .results-below) (omega (arith, all-made matryoshka-lawful a, rel-length (covers .covered)))
 
-      covers : CoveredRun F (a .meant .program) readings (a .made)
-      covers =
-          run-covers F nothing (a .meant .program) (within-covered w)
-          (subst (λ (m : ℕ). Each Smaller m (a .meant .program)) (sym (rel-length (within-covered w) ∙ counted)) (well .operands-smaller)) (a .finishes)
+  static-stand : take n (new .output .margins) ≡ static-margins-of (picked no-matryoshka (a .made) os)
+  static-stand =
+      part-front static-part (picked no-matryoshka (a .made) os) (old .output .margins)
+      (length-map os (λ o. getD (a .made) o no-matryoshka) ∙ sym (a .as-many)) (a .output-holds .margins-hold)
 
-      abbrev made : List Ball
-      made = covers .made
-
-      long : length made ≡ a .meant .header .inputs + a .meant .header .instructions
-      long = all-made (ball-rule F) no-ball readings well counted (covers .balls-finish)
-
-      abbrev picked : List Ball
-      picked = map (λ o. getD made o no-ball) os
-
-      ball-does : (workc workm outputc outputm : ℕ) → ball-room (a .meant .header) workc workm outputc outputm ≡ true → ball-job s cs rs workc workm outputc outputm ≡ done made picked
-      unfolding ball-job
-      ball-does workc workm outputc outputm u =
-          answers ball-rule no-ball (λ f. ball-tested cs rs (f .header)) readings (λ f. ball-room (f .header) workc workm outputc outputm) (a .means) (tested .1) u (covers .balls-finish)
-
-      bare : run (plain-rule F) (pos 0) (a .meant .program) cs ≡ finished (centres made)
-      bare =
-          ap (λ (l : List ℤ). run (plain-rule F) (pos 0) (a .meant .program) l) (sym (balls-centres cs (map natAbs rs) (within-long w .0 ∙ sym (length-map rs natAbs ∙ within-long w .1))))
-          ∙ covers .plain-finishes
-
-      plain-does : (work output : ℕ) → has-room (a .meant .header) work output ≡ true → plain-job s cs work output ≡ done (centres made) (map (λ o. getD (centres made) o (pos 0)) os)
-      unfolding plain-job
-      plain-does work output u =
-          answers plain-rule (pos 0) (λ f. plain-tested cs (f .header)) cs (λ f. has-room (f .header) work output) (a .means) (tested .0) u bare
-
-      plain-outputs : (work output : List ℤ) {work₁ output₁ : List ℤ} (r : Reply) → has-room (a .meant .header) (length work) (length output) ≡ true
-          → PlainKept s cs work output work₁ output₁ r → (r ≡ Done n) × (take n output₁ ≡ centres-of picked)
-      plain-outputs work output r u k =
-          let j = plain-does (length work) (length output) u in (
-            reply-one-said r (Done n) (k .0 ∙ ap said j ∙ ap answered (length-map os (λ o. getD (centres made) o (pos 0)) ∙ sym (a .as-many))),
-            front-is (map (λ o. getD (centres made) o (pos 0)) os) output (length-map os (λ o. getD (centres made) o (pos 0)) ∙ sym (a .as-many)) (k .2 ∙ ap (λ (q : Result ℤ). over (outputs-of q) output) j)
-                ∙ centres-picked made os,
-          )
-
-      ball-outputs : (workc : List ℤ) (workm : List ℕ) (outputc : List ℤ) (outputm : List ℕ) {workc₁ : List ℤ} {workm₁ : List ℕ} {outputc₁ : List ℤ} {outputm₁ : List ℕ} (r : Reply)
-          → ball-room (a .meant .header) (length workc) (length workm) (length outputc) (length outputm) ≡ true
-          → BallKept s cs rs workc workm outputc outputm workc₁ workm₁ outputc₁ outputm₁ r → (r ≡ Done n) × (take n outputc₁ ≡ centres-of picked)
-      ball-outputs workc workm outputc outputm r u k =
-          let j = ball-does (length workc) (length workm) (length outputc) (length outputm) u in
-          let l = length-map os (λ o. getD made o no-ball) ∙ sym (a .as-many) in (
-            reply-one-said r (Done n) (k .0 ∙ ap said j ∙ ap answered l),
-            front-is (centres-of picked) outputc (length-map picked (λ (b : Ball). b .centre) ∙ l) (k .3 ∙ ap (λ (q : Result Ball). over (centres-of (outputs-of q)) outputc) j),
-          )
-
-      covered-outputs : Rel Covers widest picked
-      covered-outputs =
-          rel-picked nothing no-ball (covers .covered) (well .results-below) (omega (arith, long, rel-length (covers .covered)))
-
-      enclosed-outputs : (xs ys : List Fraction) → Chosen F cs rs xs → ExactRun F (a .meant .program) xs ys → Rel (Contains F) picked (exact-outputs (a .meant) ys)
-      enclosed-outputs xs ys c x =
-          rel-picked no-ball nought
-          (run-encloses F no-ball (a .meant .program) c (subst (λ (m : ℕ). Each Smaller m (a .meant .program)) (sym counted) (well .operands-smaller)) (covers .balls-finish) x)
-          (well .results-below) (omega (arith, long))
-
-  pub demand-3 : {workc₁ : List ℤ} {works₁ workm₁ : List ℕ} {outputc₁ : List ℤ} {outputs₁ outputm₁ : List ℕ} {n : ℕ}
-      → AdmitKept s Cs Rs qs workc works workm outputc outputs outputm workc₁ works₁ workm₁ outputc₁ outputs₁ outputm₁ (Done n) → Admitted s Cs Rs qs outputm₁ n
-  demand-3 {outputm₁ = outputm₁} {n = n} k =
-      let a = admit-answered (k .0) in
-      let static : take n outputm₁ ≡ static-margins-of (widest a) =
-      front-is (static-margins-of (widest a)) outputm (length-map (widest a) (λ (m : Matryoshka). m .margin) ∙ length-map (a .meant .results) (λ o. getD (a .made) o nothing) ∙ sym (a .as-many))
-      (k .6 ∙ ap (λ (l : List Matryoshka). over (static-margins-of l) outputm) (left a)) in
-      record {
-        meant = a .meant;
-        means = a .means;
-        plain-runs = λ w work output r u p. plain-outputs a w work output r u p .0;
-        ball-runs = λ w workc workm outputc outputm r u p. ball-outputs a w workc workm outputc outputm r u p .0;
-        centres-agree = λ w work output r u p workc workm outputc outputm t v q. plain-outputs a w work output r u p .1 ∙ sym (ball-outputs a w workc workm outputc outputm t v q .1);
-        answers-close = λ w work output r u p xs ys c x.
-            subst (λ (bs : List Ball). Rel (Contains (a .meant .header .scale)) bs (exact-outputs (a .meant) ys)) (sym (ap₂ balls (plain-outputs a w work output r u p .1) static))
-            (covering-margins (a .meant .header .scale) (covered-outputs a w) (enclosed-outputs a w xs ys c x));
-      }
+pub demand-3 : {s : List ℕ} {d : Domain} {old new : Lent matryoshka-kind} {n : ℕ} → Kept matryoshka-kind (formula s) d old new (Done n) → Admitted s d new n
+demand-3 {s} {n = n} k =
+    let a = answers k in
+    let F = a .on .formula .header .scale in
+    record {
+      meant = a .on .formula;
+      means = a .started .means;
+      plain-runs = λ w lent r u p. plain-answers a w lent r u p .is;
+      ball-runs = λ w lent r u p. ball-answers a w lent r u p .is;
+      centres-agree = λ w lent r u p before t v q.
+          plain-stand a w lent (plain-answers a w lent r u p) ∙ sym (centres-stand a w before (ball-answers a w before t v q));
+      answers-close = λ w lent r u p xs ys c x.
+          subst (λ (bs : List Ball). Rel (Contains F) bs (exact-outputs (a .on .formula) ys))
+          (sym (ap₂ balls (plain-stand a w lent (plain-answers a w lent r u p)) (static-stand a)))
+          (covering-margins F (covered-outputs a w) (enclosed-outputs a w c x));
+    }

@@ -1,7 +1,5 @@
 -- The demands' proofs, one subject a file.
-pub mod Outcomes
-pub mod Accepted
-pub mod Picked
+pub mod Answering
+pub mod Nearness
 pub mod Demand2
-pub mod Domain
 pub mod Demand3

@@ -1,59 +1,76 @@
--- The demands 2 and 3 about what the jobs wrote. Demand 1 is the jobs' contracts: no `requires`, and what a refusal leaves.
+-- The demands 2 and 3 about what the jobs wrote. Demand 1 is the jobs' contracts: no `requires`, and what a refusal
+-- leaves.
 use mathlib.Core.Path.{_≡_}
 use mathlib.Core.Bool.{true}
 use mathlib.Core.List.{List, [], _∷_, map}
-use Prim.Native.Nat.{ℕ, _+_, _≤_}
+use Prim.Native.Nat.{ℕ, _≤_}
 use lib.IntN.{ℤ, _-ℤ_, natAbs}
-use lib.ListN.{length, getD, take}
+use lib.ListN.{getD, take}
 use lib.Signed.{nonNeg}
+use Rattle.lists.specs.Joined.{Rel}
+use Rattle.refusals.specs.declared.Reply.{Reply}
+use Rattle.refusals.specs.declared.Reply.the-variants.{Done}
+use Rattle.refusals.specs.Answer.{value}
 use Rattle.rules.specs.Values.{Fraction, Contains}
-use Rattle.rules.specs.Answer.{value}
-use Rattle.packed.specs.Meaning.{Formula, formula}
-use Rattle.formulas.specs.Exactly.{nought, ExactRun, Rel}
-use Rattle.walks.specs.Lists.{balls}
-use Rattle.jobs.specs.declared.Reply.{Reply}
-use Rattle.jobs.specs.declared.Reply.the-variants.{Done}
-use Rattle.jobs.specs.Jobs.{has-room, ball-room, PlainKept, BallKept}
+use Rattle.rules.specs.Lists.{balls}
+use Rattle.formulas.specs.declared.Header.{Header}
+use Rattle.formulas.specs.Formula.{Formula, places}
+use Rattle.formulas.specs.Readings.{BallReadings, Domain}
+use Rattle.formulas.specs.Kinds.{Kind, plain-kind, ball-kind, matryoshka-kind}
+use Rattle.formulas.specs.Job.{roomy, Lent, Kept}
+use Rattle.formulas.specs.ExactRun.{nought, ExactRun}
+use Rattle.packed.specs.Meaning.{formula}
 
 -- one fraction for each reading, inside its margin
-abbrev pub Chosen : ℕ → List ℤ → List ℤ → List Fraction → Type 0
-Chosen F cs rs xs = Rel (Contains F) (balls cs (map natAbs rs)) xs
+abbrev pub Chosen : ℕ → BallReadings → List Fraction → Type 0
+Chosen F given xs = Rel (Contains F) (balls (given .centres) (map natAbs (given .margins))) xs
 
 abbrev pub exact-outputs : Formula → List Fraction → List Fraction
 exact-outputs f ys = map (λ o. getD ys o nought) (f .results)
 
--- "in a ball run exact arithmetic on any fractions inside the reading margins lands inside the printed margin": for each value and each output
-pub record Honest (s : List ℕ) (cs rs workc : List ℤ) (workm : List ℕ) (outputc : List ℤ) (outputm : List ℕ) (n : ℕ) : Type 0 where
+-- "in a ball run exact arithmetic on any fractions inside the reading margins lands inside the printed margin": for
+-- each value and each output of what a ball job with n outputs left
+pub record Honest (s : List ℕ) (given : BallReadings) (left : Lent ball-kind) (n : ℕ) : Type 0 where
   pub meant : Formula
   pub means : formula s ≡ value meant
   pub as-many : n ≡ meant .header .outputs
-  pub values-inside : (xs ys : List Fraction) → Chosen (meant .header .scale) cs rs xs → ExactRun (meant .header .scale) (meant .program) xs ys
-      → Rel (Contains (meant .header .scale)) (balls (take (meant .header .inputs + meant .header .instructions) workc) (take (meant .header .inputs + meant .header .instructions) workm)) ys
-  pub outputs-inside : (xs ys : List Fraction) → Chosen (meant .header .scale) cs rs xs → ExactRun (meant .header .scale) (meant .program) xs ys
-      → Rel (Contains (meant .header .scale)) (balls (take n outputc) (take n outputm)) (exact-outputs meant ys)
+  pub values-inside : (xs ys : List Fraction) → Chosen (meant .header .scale) given xs
+      → ExactRun (meant .header .scale) (meant .program) xs ys
+      → Rel (Contains (meant .header .scale)) (ball-kind .front (places (meant .header)) (left .work)) ys
+  pub outputs-inside : (xs ys : List Fraction) → Chosen (meant .header .scale) given xs
+      → ExactRun (meant .header .scale) (meant .program) xs ys
+      → Rel (Contains (meant .header .scale)) (ball-kind .front n (left .output)) (exact-outputs meant ys)
 
 -- readings no further from their middles than the strays allow, with margins from zero up to the allowed ones
-pub data Within : List ℤ → List ℤ → List ℤ → List ℤ → List ℤ → Type 0 where
-  none : Within [] [] [] [] []
-  one : {C R q c r : ℤ} {Cs Rs qs cs rs : List ℤ} → natAbs (c -ℤ C) ≤ natAbs R → nonNeg r ≡ true → natAbs r ≤ natAbs q → Within Cs Rs qs cs rs
-      → Within (C ∷ Cs) (R ∷ Rs) (q ∷ qs) (c ∷ cs) (r ∷ rs)
+pub data Near : List ℤ → List ℤ → List ℤ → List ℤ → List ℤ → Type 0 where
+  none : Near [] [] [] [] []
+  one : {C R q c r : ℤ} {Cs Rs qs cs rs : List ℤ} → natAbs (c -ℤ C) ≤ natAbs R → nonNeg r ≡ true → natAbs r ≤ natAbs q
+      → Near Cs Rs qs cs rs → Near (C ∷ Cs) (R ∷ Rs) (q ∷ qs) (c ∷ cs) (r ∷ rs)
 
--- "For an admitted domain, readings within it are never refused, plain and ball centres agree, and exact arithmetic stays within the static margin
--- of the bare answer"; the static margins are those that the admission wrote
-pub record Admitted (s : List ℕ) (Cs Rs qs : List ℤ) (static : List ℕ) (n : ℕ) : Type 0 where
+abbrev pub InDomain : Domain → BallReadings → Type 0
+InDomain d g = Near (d .middles) (d .strays) (d .margins) (g .centres) (g .margins)
+
+-- lists as long as the rules ask
+abbrev pub LongEnough : (K : Kind) → Header → Lent K → Type 0
+LongEnough K h lent = roomy h (K .room (lent .work)) (K .room (lent .output)) ≡ true
+
+-- "For an admitted domain, readings within it are never refused, plain and ball centres agree, and exact arithmetic
+-- stays within the static margin of the bare answer"; the static margins are those that the admission wrote
+pub record Admitted (s : List ℕ) (d : Domain) (left : Lent matryoshka-kind) (n : ℕ) : Type 0 where
   pub meant : Formula
   pub means : formula s ≡ value meant
-  pub plain-runs : {cs rs : List ℤ} → Within Cs Rs qs cs rs → (work output : List ℤ) {work₁ output₁ : List ℤ} (r : Reply) → has-room (meant .header) (length work) (length output) ≡ true
-      → PlainKept s cs work output work₁ output₁ r → r ≡ Done n
-  pub ball-runs : {cs rs : List ℤ} → Within Cs Rs qs cs rs → (workc : List ℤ) (workm : List ℕ) (outputc : List ℤ) (outputm : List ℕ) {workc₁ : List ℤ} {workm₁ : List ℕ} {outputc₁ : List ℤ} {outputm₁ : List ℕ} (r : Reply)
-      → ball-room (meant .header) (length workc) (length workm) (length outputc) (length outputm) ≡ true
-      → BallKept s cs rs workc workm outputc outputm workc₁ workm₁ outputc₁ outputm₁ r → r ≡ Done n
-  pub centres-agree : {cs rs : List ℤ} → Within Cs Rs qs cs rs → (work output : List ℤ) {work₁ output₁ : List ℤ} (r : Reply) → has-room (meant .header) (length work) (length output) ≡ true
-      → PlainKept s cs work output work₁ output₁ r
-      → (workc : List ℤ) (workm : List ℕ) (outputc : List ℤ) (outputm : List ℕ) {workc₁ : List ℤ} {workm₁ : List ℕ} {outputc₁ : List ℤ} {outputm₁ : List ℕ} (t : Reply)
-      → ball-room (meant .header) (length workc) (length workm) (length outputc) (length outputm) ≡ true
-      → BallKept s cs rs workc workm outputc outputm workc₁ workm₁ outputc₁ outputm₁ t → take n output₁ ≡ take n outputc₁
-  pub answers-close : {cs rs : List ℤ} → Within Cs Rs qs cs rs → (work output : List ℤ) {work₁ output₁ : List ℤ} (r : Reply) → has-room (meant .header) (length work) (length output) ≡ true
-      → PlainKept s cs work output work₁ output₁ r
-      → (xs ys : List Fraction) → Chosen (meant .header .scale) cs rs xs → ExactRun (meant .header .scale) (meant .program) xs ys
-      → Rel (Contains (meant .header .scale)) (balls (take n output₁) (take n static)) (exact-outputs meant ys)
+  pub plain-runs : {g : BallReadings} → InDomain d g → (old : Lent plain-kind) {new : Lent plain-kind} (r : Reply)
+      → LongEnough plain-kind (meant .header) old → Kept plain-kind (formula s) (g .centres) old new r → r ≡ Done n
+  pub ball-runs : {g : BallReadings} → InDomain d g → (old : Lent ball-kind) {new : Lent ball-kind} (r : Reply)
+      → LongEnough ball-kind (meant .header) old → Kept ball-kind (formula s) g old new r → r ≡ Done n
+  pub centres-agree : {g : BallReadings} → InDomain d g → (old : Lent plain-kind) {new : Lent plain-kind} (r : Reply)
+      → LongEnough plain-kind (meant .header) old → Kept plain-kind (formula s) (g .centres) old new r
+      → (before : Lent ball-kind) {after : Lent ball-kind} (t : Reply)
+      → LongEnough ball-kind (meant .header) before → Kept ball-kind (formula s) g before after t
+      → take n (new .output) ≡ take n (after .output .centres)
+  pub answers-close : {g : BallReadings} → InDomain d g → (old : Lent plain-kind) {new : Lent plain-kind} (r : Reply)
+      → LongEnough plain-kind (meant .header) old → Kept plain-kind (formula s) (g .centres) old new r
+      → (xs ys : List Fraction) → Chosen (meant .header .scale) g xs
+      → ExactRun (meant .header .scale) (meant .program) xs ys
+      → Rel (Contains (meant .header .scale)) (balls (take n (new .output)) (take n (left .output .margins)))
+      (exact-outputs meant ys)

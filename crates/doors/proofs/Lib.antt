@@ -1,4 +1,4 @@
 -- What the doors' functions rest on, and what their contracts fix.
-mod Few
+mod Telling
 mod Copied
-pub mod Outcomes
+pub mod OneDoor

@@ -1,3 +1,2 @@
--- What C sees of a reply, and readings as records.
+-- What C sees of a reply.
 pub mod Doors
-pub mod Records

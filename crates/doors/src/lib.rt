@@ -1,8 +1,8 @@
 // What a logger in C or Rust links: the four jobs under C names, the ball job over records too. A reply is a struct of numbers, since C has no enum with values.
-pub mod admit;
-pub mod ball;
-pub mod check;
-pub mod plain;
+pub mod admit_door;
+pub mod ball_door;
+pub mod check_door;
+pub mod plain_door;
 pub mod records;
 pub mod reply;
 
@@ -22,11 +22,4 @@ pub struct MarginsFormula {
     pub inputs: u16,
     pub outputs: u16,
     pub instructions: u32,
-}
-
-// One reading with its margin.
-#[repr(C)]
-pub struct MarginsBall {
-    pub centre: i64,
-    pub margin: i64,
 }

@@ -1,5 +1,7 @@
 // Runs document 01's worked steps and prints what each answers, a line each.
 use libc::STDOUT_FILENO;
+use refusals::Refusal;
+use refusals::number_of;
 use rules::Ball;
 use rules::BallStep;
 use rules::Matryoshka;
@@ -22,11 +24,16 @@ fn say_count(n: u64) {
     io::print_decimal(STDOUT_FILENO, n);
 }
 
+fn say_refused(why: Refusal) {
+    say(b"refused");
+    say_count(number_of(why) as u64);
+}
+
 fn say_plain(question: &[u8], answer: PlainStep) {
     say(question);
     match answer {
         PlainStep::Value(x) => say_signed(x),
-        PlainStep::OutOfReach => say(b"refused 11"),
+        PlainStep::Refused(r) => say_refused(r),
     }
     say(b"\n");
 }
@@ -38,7 +45,7 @@ fn say_ball(question: &[u8], answer: BallStep) {
             say_signed(b.centre);
             say_count(b.margin);
         }
-        BallStep::OutOfReach => say(b"refused 11"),
+        BallStep::Refused(r) => say_refused(r),
     }
     say(b"\n");
 }
@@ -51,7 +58,7 @@ fn say_matryoshka(question: &[u8], answer: MatryoshkaStep) {
             say_count(m.stray);
             say_count(m.margin);
         }
-        MatryoshkaStep::OutOfReach => say(b"refused 11"),
+        MatryoshkaStep::Refused(r) => say_refused(r),
     }
     say(b"\n");
 }
@@ -72,11 +79,11 @@ fn small_products() {
     };
     say_ball(
         b"F 4: (24,3) times (-10,2) is ",
-        steps::ball::multiply(4, x, y),
+        balls::steps::multiply(4, x, y),
     );
     say_ball(
         b"F 4: (1,0) times (1,0) is ",
-        steps::ball::multiply(4, one, one),
+        balls::steps::multiply(4, one, one),
     );
     let up = Ball {
         centre: 8,
@@ -84,7 +91,7 @@ fn small_products() {
     };
     say_ball(
         b"F 4: (8,0) times (1,0) is ",
-        steps::ball::multiply(4, up, one),
+        balls::steps::multiply(4, up, one),
     );
     let tie = Ball {
         centre: -8,
@@ -92,7 +99,7 @@ fn small_products() {
     };
     say_ball(
         b"F 4: (-8,0) times (1,0) is ",
-        steps::ball::multiply(4, tie, one),
+        balls::steps::multiply(4, tie, one),
     );
     let down = Ball {
         centre: -9,
@@ -100,7 +107,7 @@ fn small_products() {
     };
     say_ball(
         b"F 4: (-9,0) times (1,0) is ",
-        steps::ball::multiply(4, down, one),
+        balls::steps::multiply(4, down, one),
     );
 }
 
@@ -116,7 +123,7 @@ fn whole_units() {
     };
     say_ball(
         b"F 0: (3,1) times (-5,2) is ",
-        steps::ball::multiply(0, x, y),
+        balls::steps::multiply(0, x, y),
     );
     let last = Ball {
         centre: 2147483646,
@@ -132,11 +139,11 @@ fn whole_units() {
     };
     say_ball(
         b"F 0: (2147483646,1) plus (0,0) is ",
-        steps::ball::add(last, none),
+        balls::steps::add(last, none),
     );
     say_ball(
         b"F 0: (2147483646,1) plus (0,1) is ",
-        steps::ball::add(last, doubt),
+        balls::steps::add(last, doubt),
     );
 }
 
@@ -153,7 +160,7 @@ fn static_products() {
     };
     say_matryoshka(
         b"F 4: (24,3,1) times (-10,2,1) is ",
-        steps::matryoshka::multiply(4, x, y),
+        matryoshki::steps::multiply(4, x, y),
     );
     let one = Matryoshka {
         middle: 1,
@@ -162,7 +169,7 @@ fn static_products() {
     };
     say_matryoshka(
         b"F 4: (1,0,0) times (1,0,0) is ",
-        steps::matryoshka::multiply(4, one, one),
+        matryoshki::steps::multiply(4, one, one),
     );
     let unit = Matryoshka {
         middle: 16,
@@ -176,14 +183,14 @@ fn static_products() {
     };
     say_matryoshka(
         b"F 4: (16,0,0) times (5,2,0) is ",
-        steps::matryoshka::multiply(4, unit, z),
+        matryoshki::steps::multiply(4, unit, z),
     );
 }
 
 fn bare_limits() {
-    say_plain(b"M plus -1 is ", steps::plain::add(2147483647, -1));
-    say_plain(b"M plus 1 is ", steps::plain::add(2147483647, 1));
-    say_plain(b"negating M is ", steps::plain::negate(2147483647));
+    say_plain(b"M plus -1 is ", plain::steps::add(2147483647, -1));
+    say_plain(b"M plus 1 is ", plain::steps::add(2147483647, 1));
+    say_plain(b"negating M is ", plain::steps::negate(2147483647));
 }
 
 fn main() {

@@ -2,24 +2,22 @@
 use mathlib.Core.Path.{_≡_, refl, subst}
 use mathlib.Core.List.{List, [], _∷_, _++_}
 use Prim.Native.Nat.{ℕ}
-use native.Mathlib.Omega.{arith}
 use lib.ListN.{length}
 use Rattle.rules.specs.declared.Ball.{Ball}
 use Rattle.rules.specs.Values.{Fraction, Contains}
-use Rattle.rules.specs.Answer.{Answer, value, refused}
+use Rattle.refusals.specs.Answer.{Answer, value, refused}
 use Rattle.rules.specs.Balls.{ball-rule}
 use Rattle.rules.proofs.Enclosure.{ball-contains}
-use Rattle.packed.specs.declared.Instruction.{Instruction}
-use Rattle.packed.specs.WellFormed.{Smaller, Each, none, one}
-use Rattle.formulas.specs.Run.{finished, stopped, with-values, onward, run}
-use Rattle.formulas.specs.Exactly.{nought, ExactRun, end, step, Rel}
-use Rattle.formulas.proofs.Relations.{rel-behind, with-values-alike, one-longer}
-
-pub never-stopped : {A : Type 0} {n : ℕ} {vs ws : List A} → stopped n vs ≡ finished ws → ⊥
-never-stopped e = let z : _≡_ {A = ℕ} 0 1 = cc in omega arith
-
-pub same-values : {A : Type 0} {vs ws : List A} → finished vs ≡ finished ws → vs ≡ ws
-same-values e = cc
+use Rattle.formulas.specs.declared.Instruction.{Instruction}
+use Rattle.formulas.specs.Formula.{Smaller}
+use Rattle.lists.specs.Each.{Each, none, one}
+use Rattle.formulas.specs.Run.{finished, with-values, onward, run}
+use Rattle.formulas.specs.ExactRun.{nought, ExactRun, end, step}
+use Rattle.lists.specs.Joined.{Rel}
+use Rattle.lists.proofs.Joined.{rel-behind}
+use Rattle.formulas.proofs.Relations.{with-values-alike}
+use Rattle.formulas.proofs.Walks.{never-stopped, same-values}
+use Rattle.lists.proofs.Over.{one-longer}
 
 pub run-encloses : (F : ℕ) (d : Ball) (is : List Instruction) {vs ws : List Ball} {xs ys : List Fraction} → Rel (Contains F) vs xs → Each Smaller (length vs) is
     → run (ball-rule F) d is vs ≡ finished ws → ExactRun F is xs ys → Rel (Contains F) ws ys

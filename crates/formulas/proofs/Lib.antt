@@ -1,6 +1,8 @@
--- What the definitions of a run entail.
+-- What the definitions of a run and of a job entail.
+pub mod Walks
 pub mod Relations
 pub mod Enclosure
 pub mod Covering
-pub mod Accepted
-pub mod Lengths
+pub mod Fitting
+pub mod Lawful
+pub mod Jobs

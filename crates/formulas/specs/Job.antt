@@ -1,47 +1,62 @@
 -- Document 01, "Numbered replies and their order": a whole job, once for the three kinds.
-use mathlib.Core.Bool.{Bool, true, false}
+use mathlib.Core.Path.{_≡_}
+use mathlib.Core.Bool.{Bool, cond, _&&_}
 use mathlib.Core.List.{List, [], map}
 use Prim.Native.Nat.{ℕ, _-_}
+use lib.Dec.{leb}
 use lib.ListN.{length, getD}
-use Rattle.rules.specs.Operation.{Operation}
-use Rattle.rules.specs.Answer.{Answer, value, refused}
-use Rattle.packed.specs.Meaning.{Formula}
+use Rattle.refusals.specs.declared.Refusal.the-variants as refusal
+use Rattle.refusals.specs.declared.Reply.{Reply}
+use Rattle.refusals.specs.Answer.{Answer, value, refused, refuse, then}
+use Rattle.refusals.specs.Said.{Said, answered, refuses, reply-said}
+use Rattle.formulas.specs.declared.Header.{Header}
+use Rattle.formulas.specs.Formula.{Formula, places}
 use Rattle.formulas.specs.Run.{Walk, finished, stopped, run}
+use Rattle.formulas.specs.Kinds.{Kind}
 
--- refused before any step, stopped at an instruction by a refusal with the values made so far, or done with all values and the outputs
+-- a formula with the values of its inputs
+pub record Started (K : Kind) : Type 0 where
+  pub formula : Formula
+  pub values : List (K .Value)
+
+-- "10: a work list has under m+l places or an output list under n"
+abbrev pub roomy : Header → ℕ → ℕ → Bool
+roomy h work output = leb (places h) work && leb (h .outputs) output
+
+abbrev pub if-room : {A : Type 0} → Bool → A → Answer A
+if-room t a = cond t (value a) (refuse refusal.NoRoom)
+
+-- "1 to 8 come in file order .. Then 9, 10": lists with so many places to work in and so many for the outputs are lent
+unfoldable pub start : (K : Kind) → Answer Formula → K .Readings → ℕ → ℕ → Answer (Started K)
+start K a given work output =
+    then a (λ f. then (K .tested (f .header .inputs) given) (λ vs.
+    if-room (roomy (f .header) work output) (record { formula = f; values = vs })))
+
+-- refused before any step, stopped at an instruction by a refusal with the values made so far, or done with all values
+-- and the outputs
 pub data Result (A : Type 0) : Type 0 where
   refused-first : ℕ → Result A
   stopped-at : ℕ → ℕ → List A → Result A
   done : List A → List A → Result A
 
--- "9: the number of readings isn't m .., or one is outside its limits" · "10: a work list has under m+l places or an output list under n"
-abbrev pub bad-readings : ℕ
-bad-readings = 9
-
-abbrev pub no-room : ℕ
-no-room = 10
-
 -- "instruction k" is the one that made no value after the first m+k; outputs in order
-abbrev pub ended : {A : Type 0} → A → Formula → Walk A → Result A
-ended d f (finished vs) = done vs (map (λ o. getD vs o d) (f .results))
-ended d f (stopped n vs) = stopped-at (length vs - f .header .inputs) n vs
+abbrev pub walk-ended : {A : Type 0} → A → Formula → Walk A → Result A
+walk-ended d f (finished vs) = done vs (map (λ o. getD vs o d) (f .results))
+walk-ended d f (stopped n vs) = stopped-at (length vs - f .header .inputs) n vs
 
-abbrev pub if-room : {A : Type 0} → Bool → Result A → Result A
-if-room true r = r
-if-room false r = refused-first no-room
+abbrev pub started-run : (K : Kind) → Started K → Walk (K .Value)
+started-run K st = run (K .rule (st .formula .header .scale)) (K .nothing) (st .formula .program) (st .values)
 
-abbrev pub with-readings : {A : Type 0} → Answer (List A) → (List A → Result A) → Result A
-with-readings (value vs) next = next vs
-with-readings (refused n) next = refused-first n
+abbrev pub if-started : (K : Kind) → Answer (Started K) → Result (K .Value)
+if-started K (refused n) = refused-first n
+if-started K (value st) = walk-ended (K .nothing) (st .formula) (started-run K st)
 
--- "1 to 8 come in file order .. Then 9, 10, 11."
-abbrev pub job : {A : Type 0} → (ℕ → Operation A → Answer A) → A → (Formula → Answer (List A)) → (Formula → Bool) → Answer Formula → Result A
-job rule d readings room (refused n) = refused-first n
-job rule d readings room (value f) =
-    with-readings (readings f) (λ vs. if-room (room f) (ended d f (run (rule (f .header .scale)) d (f .program) vs)))
+unfoldable pub job : (K : Kind) → Answer Formula → K .Readings → ℕ → ℕ → Result (K .Value)
+job K a given work output = if-started K (start K a given work output)
 
--- "On success the first m+l work places hold all values, the first n output places the outputs in order .. On refusals 1 to 10 all lent memory
--- keeps its contents. On 11 at instruction k the work lists hold the first m+k values .. and so are the outputs [untouched]."
+-- "On success the first m+l work places hold all values, the first n output places the outputs in order .. On refusals
+-- 1 to 10 all lent memory keeps its contents. On 11 at instruction k the work lists hold the first m+k values .. and so
+-- are the outputs [untouched]."
 abbrev pub work-of : {A : Type 0} → Result A → List A
 work-of (refused-first n) = []
 work-of (stopped-at k n vs) = vs
@@ -52,12 +67,27 @@ outputs-of (refused-first n) = []
 outputs-of (stopped-at k n vs) = []
 outputs-of (done vs os) = os
 
--- the reply: the number of outputs, or a refusal's number and its place
-pub data Said : Type 0 where
-  answered : ℕ → Said
-  refuses : ℕ → ℕ → Said
-
 abbrev pub said : {A : Type 0} → Result A → Said
 said (refused-first n) = refuses n 0
 said (stopped-at k n vs) = refuses n k
 said (done vs os) = answered (length os)
+
+-- "Work and output are separate lent lists"
+pub record Lent (K : Kind) : Type 0 where
+  pub work : K .Lists
+  pub output : K .Lists
+
+abbrev pub lent : (K : Kind) → K .Lists → K .Lists → Lent K
+lent K work output = record { work = work; output = output }
+
+abbrev pub lent-start : (K : Kind) → Answer Formula → K .Readings → Lent K → Answer (Started K)
+lent-start K a given lent = start K a given (K .room (lent .work)) (K .room (lent .output))
+
+abbrev pub lent-job : (K : Kind) → Answer Formula → K .Readings → Lent K → Result (K .Value)
+lent-job K a given lent = job K a given (K .room (lent .work)) (K .room (lent .output))
+
+-- the reply, and every place of every lent list
+pub record Kept (K : Kind) (a : Answer Formula) (given : K .Readings) (old new : Lent K) (r : Reply) : Type 0 where
+  pub says : reply-said r ≡ said (lent-job K a given old)
+  pub works : K .Holds (work-of (lent-job K a given old)) (old .work) (new .work)
+  pub gives : K .Holds (outputs-of (lent-job K a given old)) (old .output) (new .output)

@@ -1,11 +1,12 @@
 -- Carrying out a formula's instructions one after another. "The walk stops at the first instruction that is refused."
 use mathlib.Core.List.{List, [], _∷_, _++_}
-use Prim.Native.Nat.{ℕ}
-use lib.ListN.{getD}
+use Prim.Native.Nat.{ℕ, _-_}
+use lib.ListN.{length, getD}
 use Rattle.rules.specs.Operation.{Operation, constant, negate, add, subtract, multiply}
-use Rattle.rules.specs.Answer.{Answer, value, refused}
-use Rattle.packed.specs.declared.Instruction.{Instruction}
-use Rattle.packed.specs.declared.Instruction.the-variants.{Constant, Negate, Add, Subtract, Multiply}
+use Rattle.refusals.specs.Answer.{Answer, value, refused}
+use Rattle.refusals.specs.Said.{Said, answered, refuses}
+use Rattle.formulas.specs.declared.Instruction.{Instruction}
+use Rattle.formulas.specs.declared.Instruction.the-variants.{Constant, Negate, Add, Subtract, Multiply}
 
 -- an instruction with the values that its operands name; d stands where none is named
 abbrev pub with-values : {A : Type 0} → A → List A → Instruction → Operation A
@@ -28,3 +29,12 @@ onward vs next (refused n) = stopped n vs
 abbrev pub run : {A : Type 0} → (Operation A → Answer A) → A → List Instruction → List A → Walk A
 run rule d [] vs = finished vs
 run rule d (i ∷ is) vs = onward vs (λ ws. run rule d is ws) (rule (with-values d vs i))
+
+-- the values that a walk made, and what it says of m inputs: all done, or the refusal and the instruction
+abbrev pub made-by : {A : Type 0} → Walk A → List A
+made-by (finished vs) = vs
+made-by (stopped n vs) = vs
+
+abbrev pub walk-end : {A : Type 0} → ℕ → Walk A → Said
+walk-end m (finished vs) = answered 0
+walk-end m (stopped n vs) = refuses n (length vs - m)

@@ -1,1 +1,18 @@
-// What a run of a formula is, on lists: definitions in specs/ and, in proofs/, what they entail. There is no code here.
+// A formula without its bytes. What a run of it is, on lists, is in specs/; what that entails, in proofs/.
+
+// F, m, l and n.
+pub struct Header {
+    pub scale: u32,
+    pub inputs: usize,
+    pub instructions: usize,
+    pub outputs: usize,
+}
+
+// An operand is the number of a value.
+pub enum Instruction {
+    Constant(i64),
+    Negate(usize),
+    Add(usize, usize),
+    Subtract(usize, usize),
+    Multiply(usize, usize),
+}

@@ -1,4 +1,6 @@
--- The laws of lent lists, one subject a file.
+-- The laws of lists, one subject a file.
+pub mod Over
 pub mod Front
-pub mod Outputs
-pub mod Picking
+pub mod PartOf
+pub mod Each
+pub mod Joined

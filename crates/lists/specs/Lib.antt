@@ -1,2 +1,5 @@
--- What a list holds after its front was written, and which outputs can be picked.
+-- Lists: what one holds after its front was written, what holds of each element, and two lists side by side.
 pub mod Over
+pub mod All
+pub mod Each
+pub mod Joined

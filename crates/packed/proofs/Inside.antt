@@ -1,81 +1,234 @@
--- Reading an instruction all of whose bits are ahead. Assumes nothing.
-use mathlib.Core.Path.{_≡_, refl, sym, _∙_, ap₂}
-use mathlib.Core.Bool.{Bool, true, false}
+-- Reading an instruction out of what is ahead, and whether the bytes end inside it. Assumes nothing.
+use mathlib.Core.Path.{_≡_, refl, sym, _∙_, ap}
+use mathlib.Core.Bool.{Bool, true, false, not}
 use mathlib.Core.List.{List}
-use Prim.Native.Nat.{ℕ, _+_, _-_, _/_, _%_, _^_, _≤_, _<_, zero-le}
+use Prim.Native.Nat.{ℕ, _+_, _/_, _^_, _≤_, _<_, zero-le}
+use native.Mathlib.Nat.{mod-lt}
 use native.Mathlib.Omega.{arith}
 use lib.Dec.{eqb, lit≤}
-use borrow.Author.Tests.{eqb-true, eqb-false}
-use lib.ListN.{length, drop, length-drop}
+use lib.IntN.{ℤ}
+use lib.Pow.{pow-pos}
+use borrow.Author.Tests.{eq-eqb, ne-eqb, eqb-true, eqb-false}
+use lib.ListN.{length, drop}
 use lib.Seq.{drop-drop}
-use Rattle.rules.specs.Answer.{value, refused}
-use Rattle.bits.specs.Reader.{field}
-use Rattle.bits.specs.Fields.{Ahead}
-use Rattle.bits.proofs.Take.{field-got}
-use Rattle.packed.specs.declared.Instruction.the-variants.{Constant, Negate}
-use Rattle.packed.specs.declared.Refusal.the-variants as refusal
-use Rattle.packed.specs.Items.{read, entry, operand}
+use Rattle.whole.proofs.Machine.{back}
+use Rattle.refusals.specs.declared.Refusal.{Refusal}
+use Rattle.refusals.specs.declared.Refusal.the-variants as refusal
+use Rattle.refusals.specs.Answer.{value, refused, refuse}
+use Rattle.bits.specs.declared.Cursor.{Cursor}
+use Rattle.bits.specs.Bits.{bits}
+use Rattle.bits.specs.Fields.{before, Ahead}
+use Rattle.formulas.specs.declared.Instruction.{Instruction}
+use Rattle.formulas.specs.declared.Instruction.the-variants.{Constant, Negate}
+use Rattle.packed.specs.declared.InstructionRead.the-variants.{Got, Refused}
+use Rattle.packed.specs.Items.{code, constant, operand, entry}
+use Rattle.packed.specs.Items.{read}
 use Rattle.packed.specs.Format.{twos-complement, two-operands, by-code, instruction}
-use Rattle.packed.specs.Answers.{combined}
-use Rattle.packed.proofs.FieldIn.{field-in-high, field-in-got}
-use Rattle.packed.proofs.Instructions.{instruction-refused, instruction-got, by-code-constant, by-code-negate, by-code-two, constant-least, constant-got, one-operand-refused, one-operand-got, two-operands-refused-1, two-operands-refused-2, two-operands-got}
+use Rattle.packed.specs.ReaderAnswers.{combined, Instructed, field-at, There, Enough, CutShort}
+use Rattle.packed.proofs.FieldIn.{above-out, between}
+use Rattle.packed.proofs.Fetched.{missing, wrong, fine}
+use Rattle.packed.proofs.Instructions.{twos-complement-back, by-code-two}
 
--- the field of w bits that starts o bits on, out of what is ahead
-abbrev pub cut : ℕ → ℕ → ℕ → ℕ
-cut x o w = x / 2 ^ (64 - (o + w)) % 2 ^ w
+-- below 2^61 the code is 0, from there on it is not
+pub no-code : {x : ℕ} → x < 2 ^ 61 → field-at x 0 3 ≡ 0
+no-code l = omega arith
 
--- from 2^61 on, the code is not 0
-pub some-code : {x : ℕ} → 2 ^ 61 ≤ x → x < 2 ^ 64 → cut x 0 3 ≡ 0 → ⊥
+pub some-code : {x : ℕ} → 2 ^ 61 ≤ x → x < 2 ^ 64 → field-at x 0 3 ≡ 0 → ⊥
 some-code l m e = omega arith
 
-module _ (v : ℕ) (bs : List ℕ) (x : ℕ) (long : 35 ≤ length bs) (ahead : Ahead bs x) where
-  taken : (o w : ℕ) → 1 ≤ w → o + w ≤ 35 → field w (drop o bs) ≡ value (record { got = cut x o w; left = drop (o + w) bs })
-  taken o w some near =
-      field-got w (drop o bs) (omega (arith, length-drop o bs))
-      ∙ ap₂ (λ (n : ℕ) (l : List ℕ). value (record { got = n; left = l })) (sym (ahead o w some (omega arith) (omega arith))) (drop-drop w o bs)
+-- a constant as the machine keeps it
+pub constant-kept : (x : ℕ) {z : ℤ} → z ≡ twos-complement (field-at x 3 32) → back z ≡ twos-complement (field-at x 3 32)
+constant-kept x e = twos-complement-back (field-at x 3 32) (mod-lt (x / 2 ^ 29) (pow-pos 32)) e
 
-  pub code-refused : 5 ≤ cut x 0 3 → read (instruction v) bs ≡ refused 5
-  code-refused l = instruction-refused v bs (field-in-high 3 0 5 refusal.Code bs (taken 0 3 (lit≤ tt) (lit≤ tt)) l)
+module _ (s : List ℕ) (v : ℕ) (c : Cursor) (x : ℕ) (ahead : Ahead (before s c) x) where
+  abbrev bs : List ℕ
+  bs = before s c
 
-  coded : cut x 0 3 < 5 → read (instruction v) bs ≡ read (by-code v (cut x 0 3)) (drop 3 bs)
-  coded l = instruction-got v bs (field-in-got 3 0 5 refusal.Code bs (taken 0 3 (lit≤ tt) (lit≤ tt)) zero-le l)
+  refuses : {r : Refusal} → read (instruction v) bs ≡ refuse r → Instructed s (instruction v) 35 c (Refused r)
+  refuses e = record { answers = sym e; past = tt }
 
-  constant-coded : cut x 0 3 ≡ 0 → read (instruction v) bs ≡ read (by-code 0 0) (drop 3 bs)
-  constant-coded e = coded (omega arith) ∙ by-code-constant v (drop 3 bs) e
+  gives : {i : Instruction} (w : ℕ) → w ≤ 35 → read (instruction v) bs ≡ value (record { got = i; left = drop w bs })
+      → Instructed s (instruction v) 35 c (Got i (record { at = c .at + w }))
+  gives {i} w l e =
+      record {
+        answers = sym (e ∙ ap (λ l. value (record { got = i; left = l })) (drop-drop w (c .at) (bits s)));
+        past = omega arith;
+      }
 
-  pub constant-refused : cut x 0 3 ≡ 0 → cut x 3 32 ≡ 2 ^ 31 → read (instruction v) bs ≡ refused 7
-  constant-refused e k = constant-coded e ∙ constant-least 0 (drop 3 bs) (taken 3 32 (lit≤ tt) (lit≤ tt)) k
+  -- ---- the code
 
-  pub constant-ahead : cut x 0 3 ≡ 0 → (cut x 3 32 ≡ 2 ^ 31 → ⊥) → read (instruction v) bs ≡ value (record { got = Constant (twos-complement (cut x 3 32)); left = drop 35 bs })
-  constant-ahead e k = constant-coded e ∙ constant-got 0 (drop 3 bs) (taken 3 32 (lit≤ tt) (lit≤ tt)) k
+  coded : There s c 3 → field-at x 0 3 < 5 → read (instruction v) bs ≡ read (by-code v (field-at x 0 3)) (drop 3 bs)
+  unfolding instruction
+  coded t l =
+      rw (fine s c x ahead 0 code (lit≤ tt) (lit≤ tt) t (between 0 5 _ zero-le l))
 
-  -- an operand that starts o bits on
-  named : (o : ℕ) → o + 10 ≤ 35 → cut x o 10 < v → entry (operand v) (drop o bs) ≡ value (record { got = cut x o 10; left = drop (o + 10) bs })
-  named o near l = field-in-got 10 0 v refusal.Operand (drop o bs) (taken o 10 (lit≤ tt) near) zero-le l
+  coded-as : There s c 3 → (n : ℕ) → n < 5 → field-at x 0 3 ≡ n → read (instruction v) bs ≡ read (by-code v n) (drop 3 bs)
+  coded-as t n l e = coded t (omega arith) ∙ ap (λ m. read (by-code v m) (drop 3 bs)) e
 
-  unnamed : (o : ℕ) → o + 10 ≤ 35 → v ≤ cut x o 10 → entry (operand v) (drop o bs) ≡ refused 6
-  unnamed o near l = field-in-high 10 0 v refusal.Operand (drop o bs) (taken o 10 (lit≤ tt) near) l
+  two-coded : There s c 3 → field-at x 0 3 < 5 → (field-at x 0 3 ≡ 0 → ⊥) → (field-at x 0 3 ≡ 1 → ⊥)
+      → read (instruction v) bs ≡ read (two-operands (combined (field-at x 0 3)) v) (drop 3 bs)
+  two-coded t l some two = coded t l ∙ by-code-two v (field-at x 0 3) (drop 3 bs) some two
 
-  negate-coded : cut x 0 3 ≡ 1 → read (instruction v) bs ≡ read (by-code v 1) (drop 3 bs)
-  negate-coded e = coded (omega arith) ∙ by-code-negate v (drop 3 bs) e
+  -- ---- an operand, the one that starts o bits on
 
-  pub negate-ahead : cut x 0 3 ≡ 1 → cut x 3 10 < v → read (instruction v) bs ≡ value (record { got = Negate (cut x 3 10); left = drop 13 bs })
-  negate-ahead e l = negate-coded e ∙ one-operand-got v (drop 3 bs) (named 3 (lit≤ tt) l)
+  named : (o : ℕ) → o + 10 ≤ 57 → There s c (o + 10) → field-at x o 10 < v
+      → entry (operand v) (drop o bs) ≡ value (record { got = field-at x o 10; left = drop (o + 10) bs })
+  named o near t l = fine s c x ahead o (operand v) (lit≤ tt) near t (between 0 v _ zero-le l)
 
-  module _ (some : cut x 0 3 ≡ 0 → ⊥) (most : cut x 0 3 < 5) where
-    pub first-refused : v ≤ cut x 3 10 → read (instruction v) bs ≡ refused 6
-    first-refused l = by-test (eqb (cut x 0 3) 1) refl
-      where
-        by-test : (t : Bool) → eqb (cut x 0 3) 1 ≡ t → read (instruction v) bs ≡ refused 6
-        by-test true u = negate-coded (eqb-true (cut x 0 3) 1 u) ∙ one-operand-refused v (drop 3 bs) (unnamed 3 (lit≤ tt) l)
-        by-test false u = coded most ∙ by-code-two v (cut x 0 3) (drop 3 bs) some (eqb-false (cut x 0 3) 1 u) ∙ two-operands-refused-1 (combined (cut x 0 3)) v (drop 3 bs) (unnamed 3 (lit≤ tt) l)
+  unnamed : (o : ℕ) → o + 10 ≤ 57 → There s c (o + 10) → v ≤ field-at x o 10
+      → entry (operand v) (drop o bs) ≡ refuse refusal.Operand
+  unnamed o near t l = wrong s c x ahead o (operand v) (lit≤ tt) near t (above-out 0 v _ l)
 
-    module _ (two : cut x 0 3 ≡ 1 → ⊥) (first : cut x 3 10 < v) where
-      two-coded : read (instruction v) bs ≡ read (two-operands (combined (cut x 0 3)) v) (drop 3 bs)
-      two-coded = coded most ∙ by-code-two v (cut x 0 3) (drop 3 bs) some two
+  -- whatever the code is, its first operand is refused
+  first-operand : {n : ℕ} → There s c 3 → field-at x 0 3 < 5 → (field-at x 0 3 ≡ 0 → ⊥)
+      → entry (operand v) (drop 3 bs) ≡ refused n → read (instruction v) bs ≡ refused n
+  unfolding by-code
+  first-operand {n} t l some e = by-test (eqb (field-at x 0 3) 1) refl
+    where
+      by-test : (b : Bool) → eqb (field-at x 0 3) 1 ≡ b → read (instruction v) bs ≡ refused n
+      by-test true u = coded-as t 1 (lit≤ tt) (eqb-true (field-at x 0 3) 1 u) ∙ rw e
+      by-test false u = two-coded t l some (eqb-false (field-at x 0 3) 1 u) ∙ rw e
 
-      pub second-refused : v ≤ cut x 13 10 → read (instruction v) bs ≡ refused 6
-      second-refused l = two-coded ∙ two-operands-refused-2 (combined (cut x 0 3)) v (drop 3 bs) (named 3 (lit≤ tt) first) (unnamed 13 (lit≤ tt) l)
+  -- ---- every field is there
 
-      pub two-ahead : cut x 13 10 < v → read (instruction v) bs ≡ value (record { got = combined (cut x 0 3) (cut x 3 10) (cut x 13 10); left = drop 23 bs })
-      two-ahead l = two-coded ∙ two-operands-got (combined (cut x 0 3)) v (drop 3 bs) (named 3 (lit≤ tt) first) (named 13 (lit≤ tt) l)
+  module _ (all : Enough s v c x) where
+    pub unknown-code : 5 ≤ field-at x 0 3 → Instructed s (instruction v) 35 c (Refused refusal.Code)
+    unfolding instruction
+    unknown-code l = refuses (rw (wrong s c x ahead 0 code (lit≤ tt) (lit≤ tt) (all .code-there) (above-out 0 5 _ l)))
+
+    pub constant-refused : x < 2 ^ 61 → field-at x 3 32 ≡ 2 ^ 31
+        → Instructed s (instruction v) 35 c (Refused refusal.Constant)
+    unfolding by-code
+    constant-refused l k =
+        let t = all .constant-there (no-code l) in
+        let e = wrong s c x ahead 3 constant (lit≤ tt) (lit≤ tt) t (ap not (eq-eqb _ (2 ^ 31) k)) in
+        refuses (coded-as (all .code-there) 0 (lit≤ tt) (no-code l) ∙ rw e)
+
+    pub constant-ahead : {z : ℤ} → x < 2 ^ 61 → (field-at x 3 32 ≡ 2 ^ 31 → ⊥) → z ≡ twos-complement (field-at x 3 32)
+        → Instructed s (instruction v) 35 c (Got (Constant (back z)) (record { at = c .at + 35 }))
+    unfolding by-code
+    constant-ahead l k m =
+        let t = all .constant-there (no-code l) in
+        let e = fine s c x ahead 3 constant (lit≤ tt) (lit≤ tt) t (ap not (ne-eqb _ (2 ^ 31) k)) in
+        rw (constant-kept x m) (gives 35 (lit≤ tt) (coded-as (all .code-there) 0 (lit≤ tt) (no-code l) ∙ rw e))
+
+    pub negate-ahead : field-at x 0 3 ≡ 1 → field-at x 3 10 < v
+        → Instructed s (instruction v) 35 c (Got (Negate (field-at x 3 10)) (record { at = c .at + 13 }))
+    unfolding by-code
+    negate-ahead e l =
+        let t = all .operand-there (omega arith) (omega arith) in
+        gives 13 (lit≤ tt) (coded-as (all .code-there) 1 (lit≤ tt) e ∙ rw (named 3 (lit≤ tt) t l))
+
+    module _ (low : 2 ^ 61 ≤ x) (high : x < 2 ^ 64) (most : field-at x 0 3 < 5) where
+      pub first-refused : v ≤ field-at x 3 10 → Instructed s (instruction v) 35 c (Refused refusal.Operand)
+      first-refused l =
+          let some : (field-at x 0 3 ≡ 0 → ⊥) = some-code low high in
+          let t = all .operand-there (omega arith) most in
+          refuses (first-operand (all .code-there) most some (unnamed 3 (lit≤ tt) t l))
+
+      module _ (two : field-at x 0 3 ≡ 1 → ⊥) (first : field-at x 3 10 < v) where
+        both : There s c 23
+        both = let some : (field-at x 0 3 ≡ 0 → ⊥) = some-code low high in all .second-there (omega arith) most first
+
+        one-of-two : There s c 13
+        one-of-two = record { is = omega (arith, both .is) }
+
+        pub second-refused : v ≤ field-at x 13 10 → Instructed s (instruction v) 35 c (Refused refusal.Operand)
+        second-refused l =
+            refuses
+            (two-coded (all .code-there) most (some-code low high) two
+            ∙ rw (named 3 (lit≤ tt) one-of-two first, unnamed 13 (lit≤ tt) both l))
+
+        pub two-ahead : {i : Instruction} → field-at x 13 10 < v → i ≡ combined (field-at x 0 3) (field-at x 3 10) (field-at x 13 10)
+            → Instructed s (instruction v) 35 c (Got i (record { at = c .at + 23 }))
+        two-ahead l e =
+            rw e
+            (gives 23 (lit≤ tt)
+            (two-coded (all .code-there) most (some-code low high) two
+            ∙ rw (named 3 (lit≤ tt) one-of-two first, named 13 (lit≤ tt) both l)))
+
+  -- ---- or the bytes end
+
+  pub cut-code : length s < (c .at + 10) / 8 → Instructed s (instruction v) 35 c (Refused refusal.Ended)
+  unfolding instruction
+  cut-code l = refuses (rw (missing s c x ahead 0 code (lit≤ tt) l))
+
+  module _ (t : (c .at + 10) / 8 ≤ length s) where
+    there : There s c 3
+    there = record { is = omega arith }
+
+    pub enough-code : 5 ≤ field-at x 0 3 → Enough s v c x
+    enough-code l =
+        record {
+          code-there = there;
+          constant-there = λ e. record { is = omega arith };
+          operand-there = λ e m. record { is = omega arith };
+          second-there = λ e m n. record { is = omega arith };
+        }
+
+    module _ (e : field-at x 0 3 ≡ 0) where
+      pub cut-constant : length s < (c .at + 42) / 8 → Instructed s (instruction v) 35 c (Refused refusal.Ended)
+      unfolding by-code
+      cut-constant l = refuses (coded-as there 0 (lit≤ tt) e ∙ rw (missing s c x ahead 3 constant (lit≤ tt) l))
+
+      pub enough-constant : (c .at + 42) / 8 ≤ length s → Enough s v c x
+      enough-constant l =
+          record {
+            code-there = there;
+            constant-there = λ e. record { is = omega arith };
+            operand-there = λ m n. record { is = omega arith };
+            second-there = λ m n o. record { is = omega arith };
+          }
+
+    module _ (some : field-at x 0 3 ≡ 0 → ⊥) (most : field-at x 0 3 < 5) where
+      pub cut-operand : length s < (c .at + 20) / 8 → Instructed s (instruction v) 35 c (Refused refusal.Ended)
+      cut-operand l = refuses (first-operand there most some (missing s c x ahead 3 (operand v) (lit≤ tt) l))
+
+      module _ (u : (c .at + 20) / 8 ≤ length s) where
+        enough-operand : (2 ≤ field-at x 0 3 → field-at x 3 10 < v → There s c 23) → Enough s v c x
+        enough-operand f =
+            record {
+              code-there = there;
+              constant-there = λ e. absurd (some e);
+              operand-there = λ e m. record { is = omega arith };
+              second-there = λ e m n. f e n;
+            }
+
+        pub enough-negate : field-at x 0 3 ≡ 1 → Enough s v c x
+        enough-negate e = enough-operand (λ m n. record { is = omega arith })
+
+        pub enough-unnamed : v ≤ field-at x 3 10 → Enough s v c x
+        enough-unnamed l = enough-operand (λ m n. record { is = omega arith })
+
+        pub enough-two : (c .at + 30) / 8 ≤ length s → Enough s v c x
+        enough-two l = enough-operand (λ m n. record { is = omega arith })
+
+        pub cut-second : (field-at x 0 3 ≡ 1 → ⊥) → field-at x 3 10 < v → length s < (c .at + 30) / 8
+            → Instructed s (instruction v) 35 c (Refused refusal.Ended)
+        cut-second two first l =
+            refuses
+            (two-coded there most some two
+            ∙ rw (
+              named 3 (lit≤ tt) (record {
+                is =
+                    omega arith;
+              }) first,
+              missing s c x ahead 13 (operand v) (lit≤ tt) l,
+            ))
+
+  -- where eight bytes are there, all are
+  pub enough-bytes : c .at / 8 + 8 ≤ length s → Enough s v c x
+  enough-bytes l =
+      record {
+        code-there = record { is = omega arith };
+        constant-there = λ e. record { is = omega arith };
+        operand-there = λ e m. record { is = omega arith };
+        second-there = λ e m n. record { is = omega arith };
+      }
+
+module _ (s : List ℕ) (v : ℕ) (c : Cursor) (x : ℕ) {r : Bool} where
+  pub was-cut-short : CutShort s v c x r → r ≡ true → Instructed s (instruction v) 35 c (Refused refusal.Ended)
+  was-cut-short a e = rw e at a
+
+  pub was-enough : CutShort s v c x r → r ≡ false → Enough s v c x
+  was-enough a e = rw e at a

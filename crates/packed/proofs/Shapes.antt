@@ -1,112 +1,118 @@
 -- An instruction that was read, as the numbers at fixed places of its bits. Assumes nothing.
-use mathlib.Core.Path.{_≡_, sym, _∙_, ap, ap₂, subst, subst₂}
-use mathlib.Core.Bool.{Bool, true, false}
+use mathlib.Core.Path.{_≡_, sym, _∙_, ap, subst₂}
 use mathlib.Core.List.{List}
-use Prim.Native.Nat.{ℕ, _-_, _≤_}
+use Prim.Native.Nat.{ℕ, _+_, _^_, _≤_, _<_}
 use native.Mathlib.Omega.{arith}
+use lib.Dec.{lit≤}
+use lib.IntN.{ℤ}
 use lib.ListN.{length, take, drop, length-drop}
 use lib.Seq.{drop-drop}
-use Rattle.rules.specs.Answer.{Answer, value}
-use Rattle.bits.specs.Bits.{number}
-use Rattle.bits.specs.Reader.{Read, then, require, field}
+use Rattle.whole.proofs.Machine.{back}
+use Rattle.refusals.specs.Answer.{value}
+use Rattle.refusals.proofs.Answers.{first-of, same-value}
+use Rattle.bits.specs.declared.Cursor.{Cursor}
+use Rattle.bits.specs.Bits.{bits, number}
+use Rattle.bits.specs.Reader.{Read}
+use Rattle.bits.specs.Fields.{before, Ahead}
 use Rattle.bits.proofs.Take.{field-got, field-whole}
-use Rattle.packed.specs.declared.Instruction.{Instruction}
-use Rattle.packed.specs.declared.Instruction.the-variants.{Constant, Negate}
-use Rattle.packed.specs.Refusals.{refusal-number}
-use Rattle.packed.specs.Items.{Kind, code, constant, operand, width, permitted, complaint, tested-field, entry, read}
+use Rattle.formulas.specs.declared.Instruction.{Instruction}
+use Rattle.formulas.specs.declared.Instruction.the-variants.{Constant, Negate}
+use Rattle.packed.specs.Items.{FieldKind, code, constant, operand, width, permitted, complaint, entry, Form, done, ask}
+use Rattle.packed.specs.Items.{read}
 use Rattle.packed.specs.Format.{twos-complement, by-code, instruction}
-use Rattle.packed.specs.Answers.{combined}
+use Rattle.packed.specs.ReaderAnswers.{combined, field-at}
+use Rattle.packed.specs.Walk.{Readable, Decodes}
+use Rattle.packed.proofs.FieldIn.{passed-test}
 use Rattle.packed.proofs.Instructions.{by-code-two}
-use Rattle.packed.proofs.WellFormed.{first-of, no-value, same-value}
-
--- the field of w bits that starts o bits further on
-abbrev at-place : ℕ → ℕ → List ℕ → ℕ
-at-place o w bs = number (take w (drop o bs))
+use Rattle.packed.proofs.Inside.{no-code, some-code, constant-kept}
 
 -- a field that was read: it was there, and this is its number
-pub record Taken (k : Kind) (bs : List ℕ) (x : Read ℕ) : Type 0 where
+pub record Taken (k : FieldKind) (bs : List ℕ) (x : Read ℕ) : Type 0 where
   pub there : width k ≤ length bs
   pub number-is : x .got ≡ number (take (width k) bs)
   pub left-is : x .left ≡ drop (width k) bs
 
-pub entry-taken : (k : Kind) (bs : List ℕ) {x : Read ℕ} → entry k bs ≡ value x → Taken k bs x
-unfolding tested-field
-entry-taken k bs {x} e =
-    let a = first-of (field (width k) bs) (λ y. then (require (permitted k (y .got)) (refusal-number (complaint k)) (y .left)) (λ z. value (record { got = y .got; left = z .left }))) e in
-    let l = field-whole (width k) bs (a .was) in
-    by-test (a .first) (permitted k (a .first .got)) (a .then-was) l (same-value (sym (a .was) ∙ field-got (width k) bs l))
-  where
-    by-test : (y : Read ℕ) (t : Bool) → then (require t (refusal-number (complaint k)) (y .left)) (λ z. value (record { got = y .got; left = z .left })) ≡ value x → width k ≤ length bs → y ≡ record { got = number (take (width k) bs); left = drop (width k) bs } → Taken k bs x
-    by-test y true v l f =
-        let g : x ≡ record { got = number (take (width k) bs); left = drop (width k) bs } = sym (same-value v) ∙ f in
-        record { there = l; number-is = ap (λ (r : Read ℕ). r .got) g; left-is = ap (λ (r : Read ℕ). r .left) g }
-    by-test y false v l f = absurd (no-value v)
+pub entry-taken : (k : FieldKind) (bs : List ℕ) {x : Read ℕ} → entry k bs ≡ value x → Taken k bs x
+entry-taken k bs e =
+    let f = passed-test (width k) (permitted k) (complaint k) bs e .0 in
+    let l = field-whole (width k) bs f in
+    let g = same-value (sym f ∙ field-got (width k) bs l) in
+    record { there = l; number-is = ap (λ (r : Read ℕ). r .got) g; left-is = ap (λ (r : Read ℕ). r .left) g }
 
--- an instruction's code, and what follows it
-pub record Coded (v : ℕ) (bs : List ℕ) (x : Read Instruction) : Type 0 where
-  pub there : 3 ≤ length bs
-  pub follows : read (by-code v (number (take 3 bs))) (drop 3 bs) ≡ value x
+-- a form that begins with a field was read: the field was there, and the rest was read after it
+pub record Asked {A : Type 0} (k : FieldKind) (f : ℕ → Form A) (bs : List ℕ) (x : Read A) : Type 0 where
+  pub there : width k ≤ length bs
+  pub follows : read (f (number (take (width k) bs))) (drop (width k) bs) ≡ value x
 
-pub instruction-coded : (v : ℕ) (bs : List ℕ) {x : Read Instruction} → read (instruction v) bs ≡ value x → Coded v bs x
-unfolding instruction
-instruction-coded v bs {x} e =
-    let a = first-of (entry code bs) (λ y. read (by-code v (y .got)) (y .left)) e in
-    let t = entry-taken code bs (a .was) in
-    record {
-      there = t .there;
-      follows = subst₂ (λ (n : ℕ) (cs : List ℕ). read (by-code v n) cs ≡ value x) (t .number-is) (t .left-is) (a .then-was);
-    }
+pub asked : {A : Type 0} (k : FieldKind) (f : ℕ → Form A) (bs : List ℕ) {x : Read A} → read (ask k f) bs ≡ value x
+    → Asked k f bs x
+asked k f bs {x} e =
+    let a = first-of (entry k bs) (λ y. read (f (y .got)) (y .left)) e in
+    let t = entry-taken k bs (a .was) in
+    let after = subst₂ (λ (n : ℕ) (cs : List ℕ). read (f n) cs ≡ value x) (t .number-is) (t .left-is) (a .then-was) in
+    record { there = t .there; follows = after }
 
--- i stands at the front of bs, which is w bits long
-pub record Shape (bs : List ℕ) (w : ℕ) (i : Instruction) (x : Read Instruction) : Type 0 where
-  pub long : w ≤ length bs
-  pub is : i ≡ x .got
-  pub after : drop w bs ≡ x .left
+module _ (s : List ℕ) (c : Cursor) (x : ℕ) (r : Readable s c) (ahead : Ahead (before s c) x) where
+  abbrev bs : List ℕ
+  bs = before s c
 
-module _ (v : ℕ) (bs : List ℕ) {x : Read Instruction} (c : Coded v bs x) where
-  pub constant-shape : number (take 3 bs) ≡ 0 → Shape bs 35 (Constant (twos-complement (at-place 3 32 bs))) x
+  coded : (v : ℕ) {y : Read Instruction} → read (instruction v) bs ≡ value y → Asked code (by-code v) bs y
+  unfolding instruction
+  coded v e = asked code (by-code v) bs e
+
+  the-code : number (take 3 bs) ≡ field-at x 0 3
+  the-code = sym (ahead 0 3 (lit≤ tt) (lit≤ tt) (coded (r .below) (r .reads) .there))
+
+  -- after w bits of which o came before the last field
+  left-after : (o w : ℕ) {i j : Instruction} {y : Read Instruction} → i ≡ j
+      → record { got = j; left = drop w (drop o bs) } ≡ y → (i ≡ y .got) × (drop (c .at + (o + w)) (bits s) ≡ y .left)
+  left-after o w e g = (
+    e ∙ ap (λ (z : Read Instruction). z .got) g,
+    sym (drop-drop (o + w) (c .at) (bits s)) ∙ sym (drop-drop w o bs) ∙ ap (λ (z : Read Instruction). z .left) g,
+  )
+
+  pub decoded-constant : {z : ℤ} → x < 2 ^ 61 → z ≡ twos-complement (field-at x 3 32)
+      → Decodes s c (Constant (back z)) (record { at = c .at + 35 })
   unfolding by-code
-  constant-shape z =
-      let e = subst (λ (n : ℕ). read (by-code v n) (drop 3 bs) ≡ value x) z (c .follows) in
-      let a = first-of (entry constant (drop 3 bs)) (λ y. value (record { got = Constant (twos-complement (y .got)); left = y .left })) e in
-      let t = entry-taken constant (drop 3 bs) (a .was) in
-      let g = same-value (a .then-was) in
+  decoded-constant l m =
       record {
-        long = omega (arith, t .there, c .there, length-drop 3 bs);
-        is = ap (λ (n : ℕ). Constant (twos-complement n)) (sym (t .number-is)) ∙ ap (λ (r : Read Instruction). r .got) g;
-        after = sym (drop-drop 32 3 bs) ∙ sym (t .left-is) ∙ ap (λ (r : Read Instruction). r .left) g;
+        decoded = λ v y e.
+            let a = rw (the-code ∙ no-code l) at (coded v e .follows) in
+            let b = asked constant (λ n. done (Constant (twos-complement n))) (drop 3 bs) a in
+            let n = ahead 3 32 (lit≤ tt) (lit≤ tt) (omega (arith, b .there, length-drop 3 bs)) in
+            left-after 3 32 (ap Constant (constant-kept x m ∙ ap twos-complement n)) (same-value (b .follows));
+        near = omega arith;
       }
 
-  pub negate-shape : number (take 3 bs) ≡ 1 → Shape bs 13 (Negate (at-place 3 10 bs)) x
+  pub decoded-negate : field-at x 0 3 ≡ 1 → Decodes s c (Negate (field-at x 3 10)) (record { at = c .at + 13 })
   unfolding by-code
-  negate-shape z =
-      let e = subst (λ (n : ℕ). read (by-code v n) (drop 3 bs) ≡ value x) z (c .follows) in
-      let a = first-of (entry (operand v) (drop 3 bs)) (λ y. value (record { got = Negate (y .got); left = y .left })) e in
-      let t = entry-taken (operand v) (drop 3 bs) (a .was) in
-      let g = same-value (a .then-was) in
+  decoded-negate k =
       record {
-        long = omega (arith, t .there, c .there, length-drop 3 bs);
-        is = ap Negate (sym (t .number-is)) ∙ ap (λ (r : Read Instruction). r .got) g;
-        after = sym (drop-drop 10 3 bs) ∙ sym (t .left-is) ∙ ap (λ (r : Read Instruction). r .left) g;
+        decoded = λ v y e.
+            let a = rw (the-code ∙ k) at (coded v e .follows) in
+            let b = asked (operand v) (λ n. done (Negate n)) (drop 3 bs) a in
+            let n = ahead 3 10 (lit≤ tt) (lit≤ tt) (omega (arith, b .there, length-drop 3 bs)) in
+            left-after 3 10 (ap Negate n) (same-value (b .follows));
+        near = omega arith;
       }
 
-  pub two-shape : (number (take 3 bs) ≡ 0 → ⊥) → (number (take 3 bs) ≡ 1 → ⊥) → Shape bs 23 (combined (number (take 3 bs)) (at-place 3 10 bs) (at-place 13 10 bs)) x
-  two-shape p q =
-      let n = number (take 3 bs) in
-      let e = sym (by-code-two v n (drop 3 bs) p q) ∙ c .follows in
-      let a = first-of (entry (operand v) (drop 3 bs)) (λ y. read-second y) e in
-      let t = entry-taken (operand v) (drop 3 bs) (a .was) in
-      let b = first-of (entry (operand v) (a .first .left)) (λ z. value (record { got = combined n (a .first .got) (z .got); left = z .left })) (a .then-was) in
-      let u = entry-taken (operand v) (a .first .left) (b .was) in
-      let g = same-value (b .then-was) in
-      let d : a .first .left ≡ drop 13 bs = t .left-is ∙ drop-drop 10 3 bs in
+  pub decoded-two : {i : Instruction} → 2 ^ 61 ≤ x → x < 2 ^ 64 → (field-at x 0 3 ≡ 1 → ⊥)
+      → i ≡ combined (field-at x 0 3) (field-at x 3 10) (field-at x 13 10) → Decodes s c i (record { at = c .at + 23 })
+  decoded-two low high two m =
       record {
-        long = omega (arith, t .there, u .there, ap length d, length-drop 13 bs, length-drop 3 bs);
-        is =
-            ap₂ (λ (i j : ℕ). combined n i j) (sym (t .number-is)) (sym (u .number-is ∙ ap (λ (cs : List ℕ). number (take 10 cs)) d))
-            ∙ ap (λ (r : Read Instruction). r .got) g;
-        after = sym (drop-drop 10 13 bs) ∙ ap (drop 10) (sym d) ∙ sym (u .left-is) ∙ ap (λ (r : Read Instruction). r .left) g;
+        decoded = λ v y e.
+            let a = rw the-code at (coded v e .follows) in
+            let n = field-at x 0 3 in
+            let both = by-code-two v n (drop 3 bs) (some-code low high) two in
+            let b = asked (operand v) (second v) (drop 3 bs) (sym both ∙ a) in
+            let d = rw (drop-drop 10 3 bs) at (b .follows) in
+            let g = asked (operand v) (λ j. done (combined n (number (take 10 (drop 3 bs))) j)) (drop 13 bs) d in
+            let long : 23 ≤ length bs = omega (arith, b .there, g .there, length-drop 13 bs, length-drop 3 bs) in
+            let i = ahead 3 10 (lit≤ tt) (lit≤ tt) (omega arith) in
+            let j = ahead 13 10 (lit≤ tt) (lit≤ tt) long in
+            left-after 13 10 (m ∙ rw (i, j)) (same-value (g .follows));
+        near = omega arith;
       }
     where
-      read-second : Read ℕ → Answer (Read Instruction)
-      read-second y = then (entry (operand v) (y .left)) (λ z. value (record { got = combined (number (take 3 bs)) (y .got) (z .got); left = z .left }))
+      second : ℕ → ℕ → Form Instruction
+      second v i = ask (operand v) (λ j. done (combined (field-at x 0 3) i j))

@@ -1,15 +1,16 @@
 -- Document 01, "The packed formula": its header, its instructions, its outputs, its padding.
 use mathlib.Core.Bool.{Bool, cond, _&&_}
 use mathlib.Core.List.{List, [], _∷_}
-use Prim.Native.Nat.{ℕ, zero, suc, _^_, _≤_}
+use Prim.Native.Nat.{ℕ, zero, suc, _^_}
 use lib.Dec.{ltb, eqb}
 use lib.IntN.{ℤ, pos, _-ℤ_}
 use lib.ListN.{length}
 use Rattle.bits.specs.Bits.{number}
-use Rattle.packed.specs.declared.Header.{Header}
-use Rattle.packed.specs.declared.Instruction.{Instruction}
-use Rattle.packed.specs.declared.Instruction.the-variants.{Constant, Negate, Add, Subtract, Multiply}
-use Rattle.packed.specs.Items.{version, scale, inputs, instructions, outputs, code, constant, operand, Form, done, item, _>>=_, _>>_}
+use Rattle.formulas.specs.declared.Header.{Header}
+use Rattle.formulas.specs.declared.Instruction.{Instruction}
+use Rattle.formulas.specs.declared.Instruction.the-variants.{Constant, Negate, Add, Subtract, Multiply}
+use Rattle.packed.specs.Items.{version, scale, inputs, instructions, outputs, code, constant, operand, Form, done}
+use Rattle.packed.specs.Items.{item, _>>=_, _>>_}
 
 -- "Header, 32 bits: version .., scale .., inputs m .., instructions l .., outputs n"
 unfoldable pub header : Form Header
@@ -20,14 +21,6 @@ header = do
   l ← item instructions
   n ← item outputs
   done (record { scale = F; inputs = m; instructions = l; outputs = n })
-
--- "The scale F is 0 to 30", "m .. (0 to 16), l .. (0 to 512), n .. (1 to 16)"
-pub record InLimits (h : Header) : Type 0 where
-  pub scale-small : h .scale ≤ 30
-  pub inputs-few : h .inputs ≤ 16
-  pub instructions-few : h .instructions ≤ 512
-  pub some-output : 1 ≤ h .outputs
-  pub outputs-few : h .outputs ≤ 16
 
 -- "in two's complement": 32 bits that stand for c from 0 on, or for c − 2^32 from 2^31 on
 unfoldable pub twos-complement : ℕ → ℤ
@@ -40,7 +33,8 @@ two-operands make v = do
   j ← item (operand v)
   done (make i j)
 
--- "then a constant .., or one operand .. (code 1), or two"; they "may name only smaller values" than v, and 4 is the last permitted code
+-- "then a constant .., or one operand .. (code 1), or two"; they "may name only smaller values" than v, and 4 is the
+-- last permitted code
 unfoldable pub by-code : ℕ → ℕ → Form Instruction
 by-code v zero = do
   c ← item constant

@@ -1,21 +1,23 @@
--- Document 01, "The packed formula": the kinds of fields, and how a file is read, "in file order, field by field: for each field first 1, then
+-- Document 01, "The packed formula": the kinds of fields, and how a file is read, "in file order, field by field: for
+-- each field first 1, then
 -- its own test".
 use mathlib.Core.Bool.{Bool, _&&_, not}
 use Prim.Native.Nat.{ℕ, _^_}
 use lib.Dec.{leb, ltb, eqb}
-use Rattle.rules.specs.Answer.{value}
-use Rattle.bits.specs.Reader.{Reader, then, require, field}
-use Rattle.packed.specs.declared.Refusal.{Refusal}
-use Rattle.packed.specs.declared.Refusal.the-variants as refusal
-use Rattle.packed.specs.Refusals.{refusal-number}
+use Rattle.refusals.specs.Answer.{value, then}
+use Rattle.bits.specs.Reader.{Reader, require, field}
+use Rattle.refusals.specs.declared.Refusal.{Refusal}
+use Rattle.refusals.specs.declared.Refusal.the-variants as refusal
+use Rattle.refusals.specs.Refusals.{refusal-number}
 
 -- a field of the header, a code, a constant, or an operand or output that may name the values below v
-pub data Kind : Type 0 where
-  version scale inputs instructions outputs code constant : Kind
-  operand : ℕ → Kind
+pub data FieldKind : Type 0 where
+  version scale inputs instructions outputs code constant : FieldKind
+  operand : ℕ → FieldKind
 
--- "version 7 .., scale 5, inputs m 5 .., instructions l 10 .., outputs n 5", "code 3", "a constant of 32 bits", "operand of 10 bits"
-abbrev pub width : Kind → ℕ
+-- "version 7 .., scale 5, inputs m 5 .., instructions l 10 .., outputs n 5", "code 3", "a constant of 32 bits",
+-- "operand of 10 bits"
+abbrev pub width : FieldKind → ℕ
 width version = 7
 width scale = 5
 width inputs = 5
@@ -28,8 +30,9 @@ width (operand v) = 10
 abbrev pub from-below : ℕ → ℕ → ℕ → Bool
 from-below lo hi n = leb lo n && ltb n hi
 
--- "(must be 1)", "0 to 30", "(0 to 16)", "(0 to 512)", "(1 to 16)", not "5, 6 or 7", "(−2^31 is not allowed)", "naming a value below"
-abbrev pub permitted : Kind → ℕ → Bool
+-- "(must be 1)", "0 to 30", "(0 to 16)", "(0 to 512)", "(1 to 16)", not "5, 6 or 7", "(−2^31 is not allowed)", "naming
+-- a value below"
+abbrev pub permitted : FieldKind → ℕ → Bool
 permitted version = from-below 1 2
 permitted scale = from-below 0 31
 permitted inputs = from-below 0 17
@@ -39,7 +42,7 @@ permitted code = from-below 0 5
 permitted constant = λ n. not (eqb n (2 ^ 31))
 permitted (operand v) = from-below 0 v
 
-abbrev pub complaint : Kind → Refusal
+abbrev pub complaint : FieldKind → Refusal
 complaint version = refusal.Version
 complaint scale = refusal.Scale
 complaint inputs = refusal.Count
@@ -52,18 +55,22 @@ complaint (operand v) = refusal.Operand
 -- a field of a width, with a test of its own
 unfoldable pub tested-field : ℕ → (ℕ → Bool) → Refusal → Reader ℕ
 tested-field w test r bs =
-    then (field w bs) (λ x. then (require (test (x .got)) (refusal-number r) (x .left)) (λ y. value (record { got = x .got; left = y .left })))
+    then (field w bs) (λ x. then (require (test (x .got)) (refusal-number r) (x .left)) (λ y. value (record {
+      got =
+          x .got;
+      left = y .left;
+    })))
 
 -- one field
-abbrev pub entry : Kind → Reader ℕ
+abbrev pub entry : FieldKind → Reader ℕ
 entry k = tested-field (width k) (permitted k) (complaint k)
 
 -- a form: fields one after another, which the numbers read so far may decide
 pub data Form (A : Type 0) : Type 0 where
   done : A → Form A
-  ask : Kind → (ℕ → Form A) → Form A
+  ask : FieldKind → (ℕ → Form A) → Form A
 
-abbrev pub item : Kind → Form ℕ
+abbrev pub item : FieldKind → Form ℕ
 item k = ask k done
 
 infixl 1 _>>=_ _>>_

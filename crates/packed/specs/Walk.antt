@@ -1,12 +1,13 @@
--- Walking a checked formula: what stands at a cursor is an instruction that can be read, and decoding gives that instruction.
+-- Walking a checked formula: what stands at a cursor is an instruction that can be read, and decoding gives that
+-- instruction.
 use mathlib.Core.Path.{_≡_}
 use mathlib.Core.List.{List}
 use Prim.Native.Nat.{ℕ, _+_, _≤_}
-use Rattle.rules.specs.Answer.{value}
+use Rattle.refusals.specs.Answer.{value}
 use Rattle.bits.specs.declared.Cursor.{Cursor}
 use Rattle.bits.specs.Reader.{Read}
 use Rattle.bits.specs.Fields.{before}
-use Rattle.packed.specs.declared.Instruction.{Instruction}
+use Rattle.formulas.specs.declared.Instruction.{Instruction}
 use Rattle.packed.specs.Items.{read}
 use Rattle.packed.specs.Format.{instruction}
 
@@ -18,5 +19,6 @@ pub record Readable (s : List ℕ) (c : Cursor) : Type 0 where
 
 -- i is that instruction, and d stands after it
 pub record Decodes (s : List ℕ) (c : Cursor) (i : Instruction) (d : Cursor) : Type 0 where
-  pub decoded : (v : ℕ) (x : Read Instruction) → read (instruction v) (before s c) ≡ value x → (i ≡ x .got) × (before s d ≡ x .left)
+  pub decoded : (v : ℕ) (x : Read Instruction) → read (instruction v) (before s c) ≡ value x
+      → (i ≡ x .got) × (before s d ≡ x .left)
   pub near : d .at ≤ c .at + 35

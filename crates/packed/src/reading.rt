@@ -1,19 +1,13 @@
 // An instruction with the tests of its fields; it makes value `below`.
 ghost use mathlib.Core.Path.{_≡_};
 ghost use Prim.Native.Nat.{_^_, _≤_, _<_};
-ghost use lib.ListN.{length};
-ghost use Rattle.bits.specs.Fields.{before, Ahead, Covers};
-ghost use Rattle.packed.specs.Items.{read};
-ghost use Rattle.packed.specs.Format.{twos-complement, two-operands, by-code, instruction};
-ghost use Rattle.packed.specs.Answers.{pair, combined, operands-answer, instruction-answer, OperandsPast, InstructionPast};
-use crate::Instruction;
+ghost use Rattle.bits.specs.Fields.{before, Ahead};
+ghost use Rattle.packed.specs.Format.{twos-complement, instruction};
+ghost use Rattle.packed.specs.ReaderAnswers.{combined, Instructed, Enough, CutShort};
 use crate::InstructionRead;
-use crate::OperandsRead;
-use crate::Refusal;
-use crate::Tested;
-use crate::fields::field_in;
 use bits::Cursor;
-use bits::Field;
+use formulas::Instruction;
+use refusals::Refusal;
 
 // 32 bits in two's complement.
 pub(crate) fn signed(n: u64) -> i64
@@ -24,44 +18,6 @@ pub(crate) fn signed(n: u64) -> i64
         n as i64
     } else {
         n as i64 - 0x1_0000_0000
-    }
-}
-
-fn read_constant(s: &[u8], x: u64, start: Cursor, c: Cursor) -> InstructionRead
-    requires { ⌜ (c .at ≤ 2 ^ 32) × Covers (now s) start x c 32 ⌝ }
-    ensures { λ r. ⌜ (instruction-answer (now (s .entry)) r ≡ read (by-code 0 0) (before (now (s .entry)) c)) × InstructionPast 32 c r ⌝ }
-{
-    match c.field_of(s, x, start, 32) {
-        Field::Ended => InstructionRead::Refused(Refusal::Ended),
-        Field::Got(n, d) => {
-            if n == 0x8000_0000 {
-                return InstructionRead::Refused(Refusal::Constant);
-            }
-            InstructionRead::Got(Instruction::Constant(signed(n)), d)
-        }
-    }
-}
-
-fn read_operand(s: &[u8], x: u64, start: Cursor, c: Cursor, below: usize) -> InstructionRead
-    requires { ⌜ (c .at ≤ 2 ^ 32) × Covers (now s) start x c 10 ⌝ }
-    ensures { λ r. ⌜ (instruction-answer (now (s .entry)) r ≡ read (by-code below 1) (before (now (s .entry)) c)) × InstructionPast 10 c r ⌝ }
-{
-    match field_in(s, x, start, c, 10, 0, below as u64, Refusal::Operand) {
-        Tested::Refused(r) => InstructionRead::Refused(r),
-        Tested::Got(i, d) => InstructionRead::Got(Instruction::Negate(i as usize), d),
-    }
-}
-
-fn read_operands(s: &[u8], x: u64, start: Cursor, c: Cursor, below: usize) -> OperandsRead
-    requires { ⌜ (c .at ≤ 2 ^ 31) × Covers (now s) start x c 20 ⌝ }
-    ensures { λ r. ⌜ (operands-answer (now (s .entry)) r ≡ read (two-operands pair below) (before (now (s .entry)) c)) × OperandsPast c r ⌝ }
-{
-    match field_in(s, x, start, c, 10, 0, below as u64, Refusal::Operand) {
-        Tested::Refused(r) => OperandsRead::Refused(r),
-        Tested::Got(i, d) => match field_in(s, x, start, d, 10, 0, below as u64, Refusal::Operand) {
-            Tested::Refused(r) => OperandsRead::Refused(r),
-            Tested::Got(j, e) => OperandsRead::Got(i as usize, j as usize, e),
-        },
     }
 }
 
@@ -78,33 +34,44 @@ pub(crate) fn combine(code: u64, i: usize, j: usize) -> Instruction
     Instruction::Multiply(i, j)
 }
 
-fn read_by_code(
-    s: &[u8],
-    x: u64,
-    start: Cursor,
-    c: Cursor,
-    below: usize,
-    code: u64,
-) -> InstructionRead
-    requires { ⌜ (c .at ≤ 2 ^ 31) × Covers (now s) start x c 32 ⌝ }
-    ensures { λ r. ⌜ (instruction-answer (now (s .entry)) r ≡ read (by-code below code) (before (now (s .entry)) c)) × InstructionPast 32 c r ⌝ }
+// Whether the bytes end inside a field before another refusal is due. Past their end what is ahead is 0.
+fn cut_short(s: &[u8], x: u64, c: Cursor, below: usize) -> bool
+    requires { ⌜ (c .at ≤ 2 ^ 30) × Ahead (before (now s) c) x ⌝ }
+    ensures { λ r. ⌜ CutShort (now (s .entry)) below c x r ⌝ }
 {
+    let at = c.at;
+    if s.len() < (at + 10) / 8 {
+        return true;
+    }
+    let code = (x >> 61) % 8;
+    if 5 <= code {
+        return false;
+    }
     if code == 0 {
-        return read_constant(s, x, start, c);
+        if s.len() < (at + 42) / 8 {
+            return true;
+        }
+        return false;
+    }
+    if s.len() < (at + 20) / 8 {
+        return true;
     }
     if code == 1 {
-        return read_operand(s, x, start, c, below);
+        return false;
     }
-    match read_operands(s, x, start, c, below) {
-        OperandsRead::Refused(r) => InstructionRead::Refused(r),
-        OperandsRead::Got(i, j, d) => InstructionRead::Got(combine(code, i, j), d),
+    if below as u64 <= (x >> 51) % 1024 {
+        return false;
     }
+    if s.len() < (at + 30) / 8 {
+        return true;
+    }
+    false
 }
 
-// The same where every bit that it could take is there: all its fields come out of what is ahead, and none can have ended.
+// An instruction whose fields all are there: they come out of what is ahead.
 fn read_ahead(s: &[u8], x: u64, c: Cursor, below: usize) -> InstructionRead
-    requires { ⌜ (c .at ≤ 2 ^ 30) × (35 ≤ length (before (now s) c)) × Ahead (before (now s) c) x ⌝ }
-    ensures { λ r. ⌜ (instruction-answer (now (s .entry)) r ≡ read (instruction below) (before (now (s .entry)) c)) × InstructionPast 35 c r ⌝ }
+    requires { ⌜ (c .at ≤ 2 ^ 30) × Enough (now s) below c x × Ahead (before (now s) c) x ⌝ }
+    ensures { λ r. ⌜ Instructed (now (s .entry)) (instruction below) 35 c r ⌝ }
 {
     let at = c.at;
     // Code 0. The test asks for all of x, so that the compiler keeps its eight bytes one load.
@@ -139,16 +106,16 @@ fn read_ahead(s: &[u8], x: u64, c: Cursor, below: usize) -> InstructionRead
     )
 }
 
-pub(crate) fn read_instruction(s: &[u8], c: Cursor, below: usize) -> InstructionRead
+pub fn read_instruction(s: &[u8], c: Cursor, below: usize) -> InstructionRead
     requires { ⌜ c .at ≤ 2 ^ 30 ⌝ }
-    ensures { λ r. ⌜ (instruction-answer (now (s .entry)) r ≡ read (instruction below) (before (now (s .entry)) c)) × InstructionPast 35 c r ⌝ }
+    ensures { λ r. ⌜ Instructed (now (s .entry)) (instruction below) 35 c r ⌝ }
 {
     let x = bits::ahead(s, c);
     if c.at / 8 + 8 <= s.len() {
         return read_ahead(s, x, c, below);
     }
-    match field_in(s, x, c, c, 3, 0, 5, Refusal::Code) {
-        Tested::Refused(r) => InstructionRead::Refused(r),
-        Tested::Got(code, d) => read_by_code(s, x, c, d, below, code),
+    if cut_short(s, x, c, below) {
+        return InstructionRead::Refused(Refusal::Ended);
     }
+    read_ahead(s, x, c, below)
 }

@@ -1,11 +1,12 @@
-// The instructions of a checked formula, one by one: all the fields of one come out of what is ahead of it, and nothing is tested again.
+// The instructions of a checked formula, one by one: all the fields of one come out of what is ahead of it, and nothing
+// is tested again.
 ghost use Prim.Native.Nat.{_^_, _≤_};
 ghost use Rattle.bits.specs.Fields.{before, Ahead};
 ghost use Rattle.packed.specs.Walk.{Readable, Decodes};
-use crate::Instruction;
 use crate::reading::combine;
 use crate::reading::signed;
 use bits::Cursor;
+use formulas::Instruction;
 
 pub struct Decoded {
     pub instruction: Instruction,

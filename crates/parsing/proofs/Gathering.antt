@@ -1,57 +1,91 @@
--- Values gathered one by one to the front of a list: none yet, one more, all, or nothing of the kind. Assumes nothing.
+-- Values gathered one by one from a text to the front of a list: none yet, room for one more, one more, all, or nothing
+-- of the kind. Assumes nothing.
 use mathlib.Core.Path.{_≡_, refl, sym, _∙_, ap, subst}
 use mathlib.Core.List.{List, [], _∷_, _++_, append-nil}
 use mathlib.Core.Option.{Option, none, some}
 use Prim.Native.Nat.{ℕ, _+_, _≤_, _<_}
 use native.Mathlib.Numerals.{add-one}
 use native.Mathlib.Omega.{arith}
-use lib.ListN.{length, take, drop, set, length-set, take-append-drop}
+use lib.ListN.{length, take, drop, set, length-set, take-append-drop, drop-of-length-le}
 use lib.Seq.{length-take-le, append-snoc, take-suc-set, drop-set-lt, drop-drop}
-use Rattle.parsing.specs.declared.Gathered.the-variants.{Got}
-use Rattle.parsing.specs.Lines.{then}
-use Rattle.parsing.specs.Answers.{Gathers}
+use Rattle.parsing.specs.declared.Gathered.the-variants.{Got, Malformed}
+use Rattle.parsing.specs.Lines.{some-then}
+use Rattle.parsing.specs.ParsingAnswers.{Gathers}
 
-abbrev pub joined : {A : Type 0} → List A → Option (List A) → Option (List A)
-joined front o = then o (λ vs. some (front ++ vs))
+abbrev pub put-before : {A : Type 0} → List A → Option (List A) → Option (List A)
+put-before front o = some-then o (λ vs. some (front ++ vs))
 
-joined-none : {A : Type 0} (o : Option (List A)) → o ≡ joined [] o
-joined-none none = refl
-joined-none (some vs) = refl
+-- a value, if it is there, and those behind it
+abbrev pub first-then : {A : Type 0} → Option A → Option (List A) → Option (List A)
+first-then o rest = some-then o (λ v. put-before (v ∷ []) rest)
 
-joined-one : {A : Type 0} (front : List A) (v : A) (o : Option (List A)) → joined front (joined (v ∷ []) o) ≡ joined (front ++ v ∷ []) o
-joined-one front v none = refl
-joined-one front v (some vs) = ap some (sym (append-snoc front v vs))
+put-before-none : {A : Type 0} (o : Option (List A)) → o ≡ put-before [] o
+put-before-none none = refl
+put-before-none (some vs) = refl
 
--- n of all the values stand in the list, `left` are those to come
-pub record Gathering {A : Type 0} (all left : Option (List A)) (old new : List A) (n : ℕ) : Type 0 where
-  pub so-far : all ≡ joined (take n new) left
+put-before-one : {A : Type 0} (front : List A) (v : A) (o : Option (List A))
+    → put-before front (put-before (v ∷ []) o) ≡ put-before (front ++ v ∷ []) o
+put-before-one front v none = refl
+put-before-one front v (some vs) = ap some (sym (append-snoc front v vs))
+
+-- of the values that `meant` says of s, n stand in the list, each from two bytes or more; from `at` on others follow
+pub record Gathering {A : Type 0} (meant : List ℕ → Option (List A)) (s : List ℕ) (at : ℕ) (old new : List A) (n : ℕ) :
+    Type 0 where
+  pub so-far : meant s ≡ put-before (take n new) (meant (drop at s))
   pub kept : drop n new ≡ drop n old
   pub as-long : length new ≡ length old
-  pub within : n ≤ length new
+  pub few : n ≤ length new
+  pub half : n + n ≤ at
+  pub within : at ≤ length s
 
-module _ {A : Type 0} {all : Option (List A)} {old : List A} where
-  pub gathered-none : Gathering all all old old 0
-  gathered-none = record { so-far = joined-none all; kept = refl; as-long = refl; within = omega arith }
-
-  pub gathered-one : {left later : Option (List A)} {new : List A} {n : ℕ} (v : A) → n < length new → left ≡ joined (v ∷ []) later
-      → Gathering all left old new n → Gathering all later old (set new n v) (n + 1)
-  gathered-one {left} {later} {new} {n} v l e g =
+module _ {A : Type 0} (meant : List ℕ → Option (List A)) (s : List ℕ) (old : List A) where
+  pub gathered-none : Gathering meant s 0 old old 0
+  gathered-none =
       record {
-        so-far =
-            g .so-far ∙ ap (joined (take n new)) e ∙ joined-one (take n new) v later
-            ∙ ap (λ f. joined f later) (sym (take-suc-set new n v l) ∙ ap (λ k. take k (set new n v)) (sym (add-one n)));
-        kept =
-            drop-set-lt (n + 1) new n v (omega arith) ∙ sym (drop-drop 1 n new) ∙ ap (drop 1) (g .kept) ∙ drop-drop 1 n old;
-        as-long = length-set new n v ∙ g .as-long;
-        within = subst (λ k. n + 1 ≤ k) (sym (length-set new n v)) (omega arith);
+        so-far = put-before-none (meant s);
+        kept = refl;
+        as-long = refl;
+        few = omega arith;
+        half = omega arith;
+        within = omega arith;
       }
 
-  pub gathered-all : {left : Option (List A)} {new : List A} {n : ℕ} → left ≡ some [] → Gathering all left old new n → Gathers all old new (Got n)
-  gathered-all {left} {new} {n} e g = (
-    g .so-far ∙ ap (joined (take n new)) e ∙ ap some (append-nil (take n new)),
-    g .within,
-    sym (take-append-drop n new) ∙ ap (λ r. take n new ++ r) (g .kept ∙ ap (λ k. drop k old) (sym (length-take-le n new (g .within)))),
-  )
+module _ {A : Type 0} {meant : List ℕ → Option (List A)} {s : List ℕ} {at n : ℕ} {old new : List A}
+    (g : Gathering meant s at old new n) where
+  pub gathered-room : at < length s → length s ≤ length old + length old → n < length new
+  gathered-room l r = omega (arith, g .half, g .as-long)
 
-  pub gathered-malformed : {left : Option (List A)} {new : List A} {n : ℕ} → left ≡ none → Gathering all left old new n → all ≡ none
-  gathered-malformed {left} {new} {n} e g = g .so-far ∙ ap (joined (take n new)) e
+  pub gathered-one : {later : ℕ} (v : A) → n < length new → at + 2 ≤ later → later ≤ length s
+      → meant (drop at s) ≡ put-before (v ∷ []) (meant (drop later s)) → Gathering meant s later old (set new n v) (n + 1)
+  gathered-one {later} v l two inside e =
+      record {
+        so-far =
+            g .so-far ∙ ap (put-before (take n new)) e ∙ put-before-one (take n new) v (meant (drop later s))
+            ∙ ap (λ f. put-before f (meant (drop later s)))
+            (sym (take-suc-set new n v l) ∙ ap (λ k. take k (set new n v)) (sym (add-one n)));
+        kept =
+            drop-set-lt (n + 1) new n v (omega arith) ∙ sym (drop-drop 1 n new) ∙ ap (drop 1) (g .kept)
+            ∙ drop-drop 1 n old;
+        as-long = length-set new n v ∙ g .as-long;
+        few = subst (λ k. n + 1 ≤ k) (sym (length-set new n v)) (omega arith);
+        half = omega (arith, g .half);
+        within = inside;
+      }
+
+  pub gathered-all : meant [] ≡ some [] → length s ≤ at → Gathers (meant s) old new (Got n)
+  gathered-all e l =
+      record {
+        told =
+            g .so-far ∙ ap (put-before (take n new)) (ap meant (drop-of-length-le s l) ∙ e)
+            ∙ ap some (append-nil (take n new));
+        front =
+            record {
+              within = g .few;
+              kept =
+                  sym (take-append-drop n new)
+                  ∙ ap (λ r. take n new ++ r) (g .kept ∙ ap (λ k. drop k old) (sym (length-take-le n new (g .few))));
+            };
+      }
+
+  pub gathered-malformed : meant (drop at s) ≡ none → Gathers (meant s) old new Malformed
+  gathered-malformed e = record { told = g .so-far ∙ ap (put-before (take n new)) e; front = tt }

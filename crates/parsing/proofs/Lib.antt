@@ -2,8 +2,6 @@
 pub mod Ranges
 pub mod Cuts
 pub mod Gathering
-pub mod Hexes
 pub mod Decimals
 pub mod Signs
-pub mod Lines
 pub mod Words

@@ -4,7 +4,7 @@ use mathlib.Core.Bool.{Bool, true, false, _&&_}
 use Prim.Native.Nat.{ℕ, _≤_, _<_}
 use borrow.Author.Tests.{le-leb, lt-leb, leb-true}
 use lib.Dec.{leb}
-use Rattle.readings.proofs.Fitting.{both}
+use Rattle.whole.proofs.Cases.{both}
 
 and-false : (t : Bool) → t && false ≡ false
 and-false true = refl

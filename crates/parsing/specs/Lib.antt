@@ -1,7 +1,6 @@
--- The text that the program `margins` reads: lines, hex, decimal numbers, reading lines, the job's word.
+-- The text that the program `margins` reads: lines, decimal numbers, the job's word.
 pub mod Lines
-pub mod Hex
+pub mod Cut
 pub mod Number
-pub mod Rows
 pub mod Word
-pub mod Answers
+pub mod ParsingAnswers

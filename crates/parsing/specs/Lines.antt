@@ -8,9 +8,9 @@ use lib.Dec.{eqb}
 abbrev pub LF : ℕ
 LF = 10
 
-abbrev pub then : {A B : Type 0} → Option A → (A → Option B) → Option B
-then none next = none
-then (some a) next = next a
+abbrev pub some-then : {A B : Type 0} → Option A → (A → Option B) → Option B
+some-then none next = none
+some-then (some a) next = next a
 
 -- "input whose last line has no LF": a line that is begun and not ended
 abbrev pub if-closed : List ℕ → Option (List (List ℕ))
@@ -20,7 +20,8 @@ if-closed (b ∷ begun) = none
 -- the lines of what follows, where `begun` stands already in the first of them
 abbrev pub lines-after : List ℕ → List ℕ → Option (List (List ℕ))
 lines-after begun [] = if-closed begun
-lines-after begun (b ∷ s) = cond (eqb b LF) (then (lines-after [] s) (λ ls. some (begun ∷ ls))) (lines-after (begun ++ b ∷ []) s)
+lines-after begun (b ∷ s) =
+    cond (eqb b LF) (some-then (lines-after [] s) (λ ls. some (begun ∷ ls))) (lines-after (begun ++ b ∷ []) s)
 
 unfoldable pub lines : List ℕ → Option (List (List ℕ))
 lines s = lines-after [] s

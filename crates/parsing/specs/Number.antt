@@ -6,16 +6,18 @@ use Prim.Native.Nat.{ℕ, _+_, _*_, _-_}
 use lib.Dec.{leb, eqb}
 use lib.IntN.{ℤ, pos, negℤ}
 use lib.ListN.{length}
-use Rattle.parsing.specs.Lines.{then}
+use Rattle.parsing.specs.Lines.{some-then}
 
 -- the number that digits make after those that made n
 abbrev pub digits-after : ℕ → List ℕ → Option ℕ
 digits-after n [] = some n
 digits-after n (b ∷ s) = cond (leb 48 b && leb b 57) (digits-after (10 * n + (b - 48)) s) none
 
-abbrev pub digits : List ℕ → Option ℕ
-digits s = cond (leb 1 (length s) && leb (length s) 10) (digits-after 0 s) none
+unfoldable pub digits-meant : List ℕ → Option ℕ
+digits-meant s = cond (leb 1 (length s) && leb (length s) 10) (digits-after 0 s) none
 
-abbrev pub number : List ℕ → Option ℤ
-number [] = none
-number (b ∷ s) = cond (eqb b 45) (then (digits s) (λ n. some (negℤ (pos n)))) (then (digits (b ∷ s)) (λ n. some (pos n)))
+unfoldable pub number-meant : List ℕ → Option ℤ
+number-meant [] = none
+number-meant (b ∷ s) =
+    cond (eqb b 45) (some-then (digits-meant s) (λ n. some (negℤ (pos n))))
+    (some-then (digits-meant (b ∷ s)) (λ n. some (pos n)))

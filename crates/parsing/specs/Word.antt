@@ -22,8 +22,10 @@ same-bytes [] (b ∷ t) = false
 same-bytes (a ∷ s) [] = false
 same-bytes (a ∷ s) (b ∷ t) = eqb a b && same-bytes s t
 
-abbrev pub job-named : List ℕ → Option Job
-job-named line = cond (same-bytes line (spelt plain)) (some plain) (cond (same-bytes line (spelt ball)) (some ball) (cond (same-bytes line (spelt admit)) (some admit) none))
+unfoldable pub job-named : List ℕ → Option Job
+job-named line =
+    cond (same-bytes line (spelt plain)) (some plain)
+    (cond (same-bytes line (spelt ball)) (some ball) (cond (same-bytes line (spelt admit)) (some admit) none))
 
 -- how many numbers stand on a reading line
 abbrev pub numbers-on-a-line : Job → ℕ

@@ -1,19 +1,11 @@
-// The text that the program reads, taken apart: lines, hex, decimal numbers, reading lines, the job's word.
-pub mod column;
+// The text that the program reads, taken apart: lines, decimal numbers, the job's word.
 pub mod finding;
-pub mod hex;
 pub mod numbers;
-pub mod row;
 pub mod word;
 
 pub enum Found {
     At(usize),
     Nothing,
-}
-
-pub enum Digit {
-    Got(u8),
-    Malformed,
 }
 
 pub enum Digits {

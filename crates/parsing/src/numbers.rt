@@ -1,12 +1,12 @@
 // Decimal numbers of 1 to 10 digits after an optional minus.
 ghost use mathlib.Core.Path.{_≡_};
-ghost use Rattle.parsing.specs.Number.{digits, number};
-ghost use Rattle.parsing.specs.Answers.{digits-answer, TenDigits, number-answer};
+ghost use Rattle.parsing.specs.Number.{number-meant};
+ghost use Rattle.parsing.specs.ParsingAnswers.{ReadsDigits, number-answer};
 use crate::Digits;
 use crate::Number;
 
 fn read_digits(s: &[u8]) -> Digits
-    ensures { λ r. ⌜ (digits-answer r ≡ digits (now (s .entry))) × TenDigits r ⌝ }
+    ensures { λ r. ⌜ ReadsDigits (now (s .entry)) r ⌝ }
 {
     if s.len() < 1 {
         return Digits::Malformed;
@@ -30,8 +30,8 @@ fn read_digits(s: &[u8]) -> Digits
     Digits::Got(n)
 }
 
-pub(crate) fn read(s: &[u8]) -> Number
-    ensures { λ r. ⌜ number-answer r ≡ number (now (s .entry)) ⌝ }
+pub fn read(s: &[u8]) -> Number
+    ensures { λ r. ⌜ number-answer r ≡ number-meant (now (s .entry)) ⌝ }
 {
     if s.len() < 1 {
         return Number::Malformed;

@@ -1,7 +1,7 @@
 // The job's word.
 ghost use mathlib.Core.Path.{_≡_};
 ghost use Rattle.parsing.specs.Word.{job-named};
-ghost use Rattle.parsing.specs.Answers.{named-answer};
+ghost use Rattle.parsing.specs.ParsingAnswers.{named-answer};
 use crate::Named;
 use check::same;
 

@@ -6,14 +6,14 @@ use lib.Dec.{ltb}
 use lib.IntN.{ℤ, pos, negsuc}
 
 -- at most f + 1 digits, the most significant first, without leading zeros
-unfoldable pub digits : ℕ → ℕ → List ℕ
-digits zero n = (48 + n % 10) ∷ []
-digits (suc f) n = cond (ltb n 10) ((48 + n) ∷ []) (digits f (n / 10) ++ ((48 + n % 10) ∷ []))
+unfoldable pub digits-of : ℕ → ℕ → List ℕ
+digits-of zero n = (48 + n % 10) ∷ []
+digits-of (suc f) n = cond (ltb n 10) ((48 + n) ∷ []) (digits-of f (n / 10) ++ ((48 + n % 10) ∷ []))
 
 -- 20 digits hold every 64-bit number
 unfoldable pub decimal : ℕ → List ℕ
-decimal n = digits 19 n
+decimal n = digits-of 19 n
 
-unfoldable pub signed : ℤ → List ℕ
-signed (pos n) = decimal n
-signed (negsuc n) = 45 ∷ decimal (suc n)
+unfoldable pub signed-decimal : ℤ → List ℕ
+signed-decimal (pos n) = decimal n
+signed-decimal (negsuc n) = 45 ∷ decimal (suc n)

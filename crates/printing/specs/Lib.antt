@@ -1,4 +1,3 @@
--- What the program prints, as bytes, and what a list holds after bytes were written into it.
+-- Decimal numbers as bytes, and what a list holds after bytes were written into it.
 pub mod Decimal
 pub mod Written
-pub mod Lines

@@ -1,4 +1,3 @@
 -- The laws of readings, one subject a file.
 pub mod Sign
 pub mod Passing
-pub mod Fitting

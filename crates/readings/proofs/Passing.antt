@@ -13,7 +13,7 @@ use lib.Signed.{mag}
 use mir.Syntax.{w64}
 use mir.ValLaws.{toZ-ofZ}
 use Rattle.whole.proofs.Machine.{back}
-use Rattle.readings.specs.Readings.{plain-fits, ball-fits, matryoshka-fits, all-plain, all-balls, all-matryoshki}
+use Rattle.formulas.specs.Readings.{plain-fits, ball-fits, matryoshka-fits, all-plain, all-balls, all-matryoshki}
 
 -- a first test that passed leaves the second, one that failed fails both
 pub passed : {t : Bool} (u : Bool) → t ≡ true → t && u ≡ u
@@ -22,11 +22,11 @@ passed u e = ap (λ (b : Bool). b && u) e
 pub failed : {t : Bool} (u : Bool) → t ≡ false → t && u ≡ false
 failed u e = ap (λ (b : Bool). b && u) e
 
-pub counted : {n m : ℕ} (u : Bool) → n ≡ m → eqb n m && u ≡ u
-counted {n} {m} u e = passed u (eq-eqb n m e)
+pub count-passes : {n m : ℕ} (u : Bool) → n ≡ m → eqb n m && u ≡ u
+count-passes {n} {m} u e = passed u (eq-eqb n m e)
 
-pub miscounted : {n m : ℕ} (u : Bool) → (n ≡ m → ⊥) → eqb n m && u ≡ false
-miscounted {n} {m} u d = failed u (ne-eqb n m d)
+pub count-fails : {n m : ℕ} (u : Bool) → (n ≡ m → ⊥) → eqb n m && u ≡ false
+count-fails {n} {m} u d = failed u (ne-eqb n m d)
 
 -- a turn: `got` says whether this reading fits, and either the loop goes on to the rest or all fail
 pub goes-on : {all this rest got : Bool} → all ≡ (this && rest) → got ≡ this → not got ≡ false → all ≡ rest

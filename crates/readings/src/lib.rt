@@ -1,10 +1,15 @@
 // The readings a caller brings: as many as were asked for, in each list that carries them, and each within its limits.
 ghost use mathlib.Core.Path.{_≡_};
-ghost use mathlib.Core.Bool.{_&&_};
-ghost use lib.Dec.{eqb};
-ghost use lib.ListN.{length};
-ghost use Rattle.readings.specs.Readings.{plain-fits, ball-fits, matryoshka-fits, all-plain, all-balls, all-matryoshki};
-use steps::rounding;
+ghost use Rattle.formulas.specs.Readings.{
+  plain-fits,
+  ball-fits,
+  matryoshka-fits,
+  ball-readings,
+  domain,
+  plain-tested,
+  ball-tested,
+  domain-tested,
+};
 use whole::magnitude;
 
 // Whether |x| is at most M.
@@ -39,7 +44,7 @@ fn matryoshka_fits(c: i64, s: i64, r: i64) -> bool
 
 // Whether these are m plain values.
 pub fn plain_readings(readings: &[i64], m: usize) -> bool
-    ensures { λ r. ⌜ r ≡ (eqb (length (now (readings .entry))) m && all-plain (now (readings .entry))) ⌝ }
+    ensures { λ r. ⌜ r ≡ plain-tested m (now (readings .entry)) ⌝ }
 {
     if readings.len() != m {
         return false;
@@ -57,7 +62,7 @@ pub fn plain_readings(readings: &[i64], m: usize) -> bool
 
 // Whether these are m balls.
 pub fn ball_readings(centres: &[i64], margins: &[i64], m: usize) -> bool
-    ensures { λ r. ⌜ r ≡ (eqb (length (now (centres .entry))) m && (eqb (length (now (margins .entry))) m && all-balls (now (centres .entry)) (now (margins .entry)))) ⌝ }
+    ensures { λ r. ⌜ r ≡ ball-tested m (ball-readings (now (centres .entry)) (now (margins .entry))) ⌝ }
 {
     if centres.len() != m {
         return false;
@@ -79,7 +84,8 @@ pub fn ball_readings(centres: &[i64], margins: &[i64], m: usize) -> bool
 
 // Whether these are m matryoshki.
 pub fn admit_readings(middles: &[i64], strays: &[i64], margins: &[i64], m: usize) -> bool
-    ensures { λ r. ⌜ r ≡ (eqb (length (now (middles .entry))) m && (eqb (length (now (strays .entry))) m && (eqb (length (now (margins .entry))) m && all-matryoshki (now (middles .entry)) (now (strays .entry)) (now (margins .entry))))) ⌝ }
+    ensures { λ r. ⌜ r ≡ domain-tested m (domain (now (middles .entry)) (now (strays .entry)) (now (margins .entry)))
+        ⌝ }
 {
     if middles.len() != m {
         return false;

@@ -11,7 +11,8 @@ use Rattle.rules.specs.declared.Matryoshka.{Matryoshka}
 use Rattle.rules.specs.Numbers.{M, Q, h, Round, Up}
 use Rattle.rules.specs.Values.{Covers, plain-reach, ball-reach, matryoshka-reach}
 use Rattle.rules.specs.Operation.{Operation, each, Alike, constants, negations, sums, differences, products}
-use Rattle.rules.specs.Answer.{value, within-reach}
+use Rattle.refusals.specs.Answer.{value}
+use Rattle.rules.specs.Steps.{within-reach}
 use Rattle.rules.specs.Plain.{plain-result, plain-rule}
 use Rattle.rules.specs.Balls.{ball-result, ball-rule}
 use Rattle.rules.specs.Matryoshki.{matryoshka-result, matryoshka-rule}

@@ -11,9 +11,9 @@ use Rattle.rules.specs.declared.Ball.{Ball}
 use Rattle.rules.specs.Numbers.{Q, Round, Up}
 use Rattle.rules.specs.Values.{Fraction, Contains, ball-reach}
 use Rattle.rules.specs.Operation.{Operation, Alike, constants, negations, sums, differences, products}
-use Rattle.rules.specs.Answer.{value}
+use Rattle.refusals.specs.Answer.{value}
 use Rattle.rules.specs.Balls.{ball-result, ball-rule}
-use Rattle.rules.specs.Exact.{Exact, over, across}
+use Rattle.rules.specs.Exact.{Exact, over-both, across}
 use Rattle.rules.proofs.Reach.{reach-accepted}
 use Rattle.rules.proofs.Rounding.{up-covers}
 use Rattle.whole.proofs.Ring.{Expr, worth, ring, neg, lit, _⊕_, _⊖_, _⊗_, x₀, x₁, x₂, x₃, x₄, x₅, x₆, x₇}
@@ -53,7 +53,7 @@ misses F {a} {b} {x} {y} p q =
         (x₀ ⊗ x₂ ⊗ x₃ ⊕ x₁ ⊗ x₃ ⊗ x₂) ((x₀ ⊕ x₁) ⊗ (x₂ ⊗ x₃)) refl)
 
 sum-contains : (F : ℕ) {a b : Ball} {x y : Fraction} → Contains F a x → Contains F b y
-    → natAbs (miss F (a .centre +ℤ b .centre) (over (across x y +ℤ across y x) x y)) ≤ (a .margin + b .margin) * (x .denominator * y .denominator)
+    → natAbs (miss F (a .centre +ℤ b .centre) (over-both (across x y +ℤ across y x) x y)) ≤ (a .margin + b .margin) * (x .denominator * y .denominator)
 sum-contains F {a} {b} {x} {y} p q =
     size-by
     (ring (x .numerator ∷ y .numerator ∷ pos (Q F) ∷ a .centre ∷ b .centre ∷ pos (x .denominator) ∷ pos (y .denominator) ∷ [])
@@ -61,7 +61,7 @@ sum-contains F {a} {b} {x} {y} p q =
     (le-trans (size-add (miss F (a .centre) x *ℤ pos (y .denominator)) (miss F (b .centre) y *ℤ pos (x .denominator))) (misses F p q))
 
 difference-contains : (F : ℕ) {a b : Ball} {x y : Fraction} → Contains F a x → Contains F b y
-    → natAbs (miss F (a .centre -ℤ b .centre) (over (across x y -ℤ across y x) x y)) ≤ (a .margin + b .margin) * (x .denominator * y .denominator)
+    → natAbs (miss F (a .centre -ℤ b .centre) (over-both (across x y -ℤ across y x) x y)) ≤ (a .margin + b .margin) * (x .denominator * y .denominator)
 difference-contains F {a} {b} {x} {y} p q =
     size-by
     (ring (x .numerator ∷ y .numerator ∷ pos (Q F) ∷ a .centre ∷ b .centre ∷ pos (x .denominator) ∷ pos (y .denominator) ∷ [])
@@ -91,7 +91,7 @@ module _ (F : ℕ) {a b : Ball} {x y : Fraction} (p : Contains F a x) (q : Conta
   unfolding values bounds
   in-bounds = more (le-refl _) (more (le-refl _) (more (le-refl _) (more (le-refl _) (more (q .near) (more (p .near) (more (le-refl _) none))))))
 
-  product-miss : miss F c (over (x .numerator *ℤ y .numerator) x y) *ℤ pos (Q F) ≡ worth values pieces
+  product-miss : miss F c (over-both (x .numerator *ℤ y .numerator) x y) *ℤ pos (Q F) ≡ worth values pieces
   unfolding values pieces
   product-miss =
       ring (x .numerator ∷ y .numerator ∷ pos (Q F) ∷ a .centre ∷ b .centre ∷ pos (x .denominator) ∷ pos (y .denominator) ∷ c ∷ [])
@@ -106,12 +106,12 @@ module _ (F : ℕ) {a b : Ball} {x y : Fraction} (p : Contains F a x) (q : Conta
       (x₀ ⊗ (x₁ ⊗ x₂) ⊕ (x₃ ⊗ x₁) ⊗ (x₄ ⊗ x₂) ⊕ (x₅ ⊗ x₁) ⊗ (x₆ ⊗ x₂) ⊕ (x₅ ⊗ x₁) ⊗ (x₄ ⊗ x₂))
       (((x₃ ⊕ x₅) ⊗ x₄ ⊕ x₆ ⊗ x₅ ⊕ x₀) ⊗ (x₁ ⊗ x₂)) refl)
 
-  product-contains : natAbs (miss F c (over (x .numerator *ℤ y .numerator) x y)) ≤ Up F doubt * (x .denominator * y .denominator)
+  product-contains : natAbs (miss F c (over-both (x .numerator *ℤ y .numerator) x y)) ≤ Up F doubt * (x .denominator * y .denominator)
   product-contains =
       le-of-mul-le-mul-right {k = Q F}
       (omega (
         arith,
-        size-mul (miss F c (over (x .numerator *ℤ y .numerator) x y)) (pos (Q F)),
+        size-mul (miss F c (over-both (x .numerator *ℤ y .numerator) x y)) (pos (Q F)),
         ap natAbs product-miss,
         bounded in-bounds pieces,
         doubt-bound,

@@ -3,5 +3,6 @@ pub mod Rounding
 pub mod Reach
 pub mod Enclosure
 pub mod Cover
-pub mod Answers
+pub mod OneStep
+pub mod Lists
 pub mod Figures

@@ -11,7 +11,9 @@ use Rattle.rules.specs.declared.Matryoshka.{Matryoshka}
 use Rattle.rules.specs.Numbers.{M}
 use Rattle.rules.specs.Values.{Allowed, IsBall, IsMatryoshka, plain-reach, ball-reach, matryoshka-reach}
 use Rattle.rules.specs.Operation.{Operation}
-use Rattle.rules.specs.Answer.{value, refused, within-reach, out-of-reach}
+use Rattle.refusals.specs.Answer.{value, refuse}
+use Rattle.rules.specs.Steps.{within-reach}
+use Rattle.refusals.specs.declared.Refusal.the-variants.{OutOfReach}
 use Rattle.rules.specs.Plain.{plain-rule, plain-result}
 use Rattle.rules.specs.Balls.{ball-rule, ball-result}
 use Rattle.rules.specs.Matryoshki.{matryoshka-rule, matryoshka-result}
@@ -19,18 +21,18 @@ use Rattle.rules.specs.Matryoshki.{matryoshka-rule, matryoshka-result}
 module _ {A : Type 0} (reach : A → ℕ) where
   pub reach-accepts : (a : A) → reach a ≤ M → within-reach reach a ≡ value a
   unfolding within-reach
-  reach-accepts a l = ap (λ (t : Bool). cond t (value a) (refused out-of-reach)) (le-leb (reach a) M l)
+  reach-accepts a l = ap (λ (t : Bool). cond t (value a) (refuse OutOfReach)) (le-leb (reach a) M l)
 
-  pub reach-refuses : (a : A) → M < reach a → within-reach reach a ≡ refused out-of-reach
+  pub reach-refuses : (a : A) → M < reach a → within-reach reach a ≡ refuse OutOfReach
   unfolding within-reach
-  reach-refuses a l = ap (λ (t : Bool). cond t (value a) (refused out-of-reach)) (lt-leb (reach a) M l)
+  reach-refuses a l = ap (λ (t : Bool). cond t (value a) (refuse OutOfReach)) (lt-leb (reach a) M l)
 
   -- what an accepted step says: its value is the result, and it is within reach
   pub reach-accepted : (a b : A) → within-reach reach a ≡ value b → (a ≡ b) × (reach b ≤ M)
   unfolding within-reach
   reach-accepted a b e = by-test (leb (reach a) M) refl e
     where
-      by-test : (t : Bool) → leb (reach a) M ≡ t → cond t (value a) (refused out-of-reach) ≡ value b → (a ≡ b) × (reach b ≤ M)
+      by-test : (t : Bool) → leb (reach a) M ≡ t → cond t (value a) (refuse OutOfReach) ≡ value b → (a ≡ b) × (reach b ≤ M)
       by-test true u e = let same : a ≡ b = cc in (same, rw same at (leb-true (reach a) M u))
       by-test false u e = absurd (let z : _≡_ {A = ℕ} 0 1 = cc in omega arith)
 

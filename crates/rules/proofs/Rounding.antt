@@ -20,13 +20,13 @@ h-half zero = omega arith
 h-half (suc f) = omega (arith, pow-suc 2 f)
 
 -- what Round leaves of p + h
-abbrev over : ℕ → ℤ → ℕ
-over F p = rest (p +ℤ pos (h F)) (Q F)
+abbrev remainder : ℕ → ℤ → ℕ
+remainder F p = rest (p +ℤ pos (h F)) (Q F)
 
-over-lt : (F : ℕ) (p : ℤ) → over F p < Q F
-over-lt F p = rest-lt (p +ℤ pos (h F)) (pow-pos F)
+remainder-lt : (F : ℕ) (p : ℤ) → remainder F p < Q F
+remainder-lt F p = rest-lt (p +ℤ pos (h F)) (pow-pos F)
 
-round-split : (F : ℕ) (p : ℤ) → p +ℤ pos (h F) ≡ Round F p *ℤ pos (Q F) +ℤ pos (over F p)
+round-split : (F : ℕ) (p : ℤ) → p +ℤ pos (h F) ≡ Round F p *ℤ pos (Q F) +ℤ pos (remainder F p)
 unfolding Round
 round-split F p = floor-split (p +ℤ pos (h F)) (pow-pos F)
 
@@ -36,17 +36,17 @@ round-shift F p n =
     ap (λ (z : ℤ). shrZ z (Q F)) (ring (p ∷ n ∷ pos (Q F) ∷ pos (h F) ∷ []) (x₀ ⊕ x₁ ⊗ x₂ ⊕ x₃) (x₀ ⊕ x₃ ⊕ x₁ ⊗ x₂) refl)
     ∙ floor-shift (p +ℤ pos (h F)) n (pow-pos F)
 
--- |p − Round(p)·Q| is | over − h |
-pub round-lost : (F : ℕ) (p : ℤ) → p -ℤ Round F p *ℤ pos (Q F) ≡ pos (over F p) -ℤ pos (h F)
+-- |p − Round(p)·Q| is |remainder − h|
+pub round-lost : (F : ℕ) (p : ℤ) → p -ℤ Round F p *ℤ pos (Q F) ≡ pos (remainder F p) -ℤ pos (h F)
 round-lost F p =
     ring (p ∷ pos (h F) ∷ Round F p ∷ pos (Q F) ∷ []) (x₀ ⊖ x₂ ⊗ x₃) (x₀ ⊕ x₁ ⊖ x₂ ⊗ x₃ ⊖ x₁) refl
     ∙ ap (λ (z : ℤ). z -ℤ Round F p *ℤ pos (Q F) -ℤ pos (h F)) (round-split F p)
-    ∙ ring (pos (over F p) ∷ pos (h F) ∷ Round F p ∷ pos (Q F) ∷ []) (x₂ ⊗ x₃ ⊕ x₀ ⊖ x₂ ⊗ x₃ ⊖ x₁) (x₀ ⊖ x₁) refl
+    ∙ ring (pos (remainder F p) ∷ pos (h F) ∷ Round F p ∷ pos (Q F) ∷ []) (x₂ ⊗ x₃ ⊕ x₀ ⊖ x₂ ⊗ x₃ ⊖ x₁) (x₀ ⊖ x₁) refl
 
 pub round-loss : (F : ℕ) (p : ℤ) → natAbs (p -ℤ Round F p *ℤ pos (Q F)) ≤ h F
 round-loss F p =
     subst (λ (z : ℤ). natAbs z ≤ h F) (sym (round-lost F p))
-    (size-gap (over F p) (h F) (omega (arith, over-lt F p, h-half F)) (omega arith))
+    (size-gap (remainder F p) (h F) (omega (arith, remainder-lt F p, h-half F)) (omega arith))
 
 pub up-covers : (F p : ℕ) → p ≤ Up F p * Q F
 unfolding Up
@@ -63,14 +63,14 @@ up-mono F l = shr-mono F (omega arith)
 pub round-near : (F : ℕ) (p q : ℤ) → natAbs (Round F p -ℤ Round F q) ≤ Up F (natAbs (p -ℤ q))
 round-near F p q = up-least F _ _ (subst (λ (n : ℕ). n ≤ natAbs (p -ℤ q) + (Q F - 1)) (ap natAbs moved ∙ size-mul (Round F p -ℤ Round F q) (pos (Q F))) far)
   where
-    moved : (p -ℤ q) +ℤ (pos (over F q) -ℤ pos (over F p)) ≡ (Round F p -ℤ Round F q) *ℤ pos (Q F)
+    moved : (p -ℤ q) +ℤ (pos (remainder F q) -ℤ pos (remainder F p)) ≡ (Round F p -ℤ Round F q) *ℤ pos (Q F)
     moved =
-        ring (p ∷ q ∷ pos (h F) ∷ pos (over F p) ∷ pos (over F q) ∷ []) (x₀ ⊖ x₁ ⊕ (x₄ ⊖ x₃)) (x₀ ⊕ x₂ ⊖ (x₁ ⊕ x₂) ⊕ (x₄ ⊖ x₃)) refl
-        ∙ ap₂ (λ (x y : ℤ). x -ℤ y +ℤ (pos (over F q) -ℤ pos (over F p))) (round-split F p) (round-split F q)
-        ∙ ring (Round F p ∷ Round F q ∷ pos (Q F) ∷ pos (over F p) ∷ pos (over F q) ∷ [])
+        ring (p ∷ q ∷ pos (h F) ∷ pos (remainder F p) ∷ pos (remainder F q) ∷ []) (x₀ ⊖ x₁ ⊕ (x₄ ⊖ x₃)) (x₀ ⊕ x₂ ⊖ (x₁ ⊕ x₂) ⊕ (x₄ ⊖ x₃)) refl
+        ∙ ap₂ (λ (x y : ℤ). x -ℤ y +ℤ (pos (remainder F q) -ℤ pos (remainder F p))) (round-split F p) (round-split F q)
+        ∙ ring (Round F p ∷ Round F q ∷ pos (Q F) ∷ pos (remainder F p) ∷ pos (remainder F q) ∷ [])
         (x₀ ⊗ x₂ ⊕ x₃ ⊖ (x₁ ⊗ x₂ ⊕ x₄) ⊕ (x₄ ⊖ x₃)) ((x₀ ⊖ x₁) ⊗ x₂) refl
 
-    far : natAbs ((p -ℤ q) +ℤ (pos (over F q) -ℤ pos (over F p))) ≤ natAbs (p -ℤ q) + (Q F - 1)
+    far : natAbs ((p -ℤ q) +ℤ (pos (remainder F q) -ℤ pos (remainder F p))) ≤ natAbs (p -ℤ q) + (Q F - 1)
     far =
         omega
-        (arith, size-add (p -ℤ q) (pos (over F q) -ℤ pos (over F p)), size-gap (over F q) (over F p) {n = Q F - 1} (omega (arith, over-lt F q)) (omega (arith, over-lt F p)))
+        (arith, size-add (p -ℤ q) (pos (remainder F q) -ℤ pos (remainder F p)), size-gap (remainder F q) (remainder F p) {n = Q F - 1} (omega (arith, remainder-lt F q)) (omega (arith, remainder-lt F p)))

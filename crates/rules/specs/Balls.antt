@@ -5,7 +5,8 @@ use Rattle.rules.specs.declared.Ball.{Ball}
 use Rattle.rules.specs.Numbers.{Q, Round, Up}
 use Rattle.rules.specs.Values.{ball-reach}
 use Rattle.rules.specs.Operation.{Operation, constant, negate, add, subtract, multiply}
-use Rattle.rules.specs.Answer.{Answer, within-reach}
+use Rattle.refusals.specs.Answer.{Answer}
+use Rattle.rules.specs.Steps.{within-reach}
 
 abbrev pub ball : ℤ → ℕ → Ball
 ball c r = record { centre = c; margin = r }

@@ -5,7 +5,7 @@ use lib.IntN.{ℤ, pos, negsuc}
 use Rattle.rules.specs.declared.Ball.{Ball}
 use Rattle.rules.specs.declared.Matryoshka.{Matryoshka}
 use Rattle.rules.specs.Operation.{Operation, add, multiply}
-use Rattle.rules.specs.Answer.{Answer, value, refused}
+use Rattle.refusals.specs.Answer.{Answer, value, refused}
 use Rattle.rules.specs.Balls.{ball, ball-rule}
 use Rattle.rules.specs.Matryoshki.{matryoshka, matryoshka-rule}
 
@@ -22,9 +22,9 @@ abbrev pub matryoshka-numbers : Answer Matryoshka → Answer (List ℤ)
 matryoshka-numbers (value m) = value (m .middle ∷ pos (m .stray) ∷ pos (m .margin) ∷ [])
 matryoshka-numbers (refused n) = refused n
 
-abbrev pub answered : Step → Answer (List ℤ)
-answered (on-balls F o) = ball-numbers (ball-rule F o)
-answered (on-matryoshki F o) = matryoshka-numbers (matryoshka-rule F o)
+abbrev pub step-answer : Step → Answer (List ℤ)
+step-answer (on-balls F o) = ball-numbers (ball-rule F o)
+step-answer (on-matryoshki F o) = matryoshka-numbers (matryoshka-rule F o)
 
 pub record Figure : Type 0 where
   pub step : Step
@@ -43,9 +43,12 @@ figures =
     ∷ (on-balls 4 (multiply (ball (negsuc 7) 0) (ball (pos 1) 0)) gives value (pos 0 ∷ pos 1 ∷ []))
     ∷ (on-balls 4 (multiply (ball (negsuc 8) 0) (ball (pos 1) 0)) gives value (negsuc 0 ∷ pos 1 ∷ []))
     ∷ (on-balls 0 (multiply (ball (pos 3) 1) (ball (negsuc 4) 2)) gives value (negsuc 14 ∷ pos 13 ∷ []))
-    ∷ (on-matryoshki 4 (multiply (matryoshka (pos 24) 3 1) (matryoshka (negsuc 9) 2 1)) gives value (negsuc 14 ∷ pos 6 ∷ pos 3 ∷ []))
-    ∷ (on-matryoshki 4 (multiply (matryoshka (pos 1) 0 0) (matryoshka (pos 1) 0 0)) gives value (pos 0 ∷ pos 0 ∷ pos 1 ∷ []))
-    ∷ (on-matryoshki 4 (multiply (matryoshka (pos 16) 0 0) (matryoshka (pos 5) 2 0)) gives value (pos 5 ∷ pos 2 ∷ pos 1 ∷ []))
+    ∷ (on-matryoshki 4 (multiply (matryoshka (pos 24) 3 1) (matryoshka (negsuc 9) 2 1)) gives value
+    (negsuc 14 ∷ pos 6 ∷ pos 3 ∷ []))
+    ∷ (on-matryoshki 4 (multiply (matryoshka (pos 1) 0 0) (matryoshka (pos 1) 0 0)) gives value
+    (pos 0 ∷ pos 0 ∷ pos 1 ∷ []))
+    ∷ (on-matryoshki 4 (multiply (matryoshka (pos 16) 0 0) (matryoshka (pos 5) 2 0)) gives value
+    (pos 5 ∷ pos 2 ∷ pos 1 ∷ []))
     ∷ (on-balls 0 (add (ball (pos 2147483646) 1) (ball (pos 0) 0)) gives value (pos 2147483646 ∷ pos 1 ∷ []))
     ∷ (on-balls 0 (add (ball (pos 2147483646) 1) (ball (pos 0) 1)) gives refused 11)
     ∷ []

@@ -2,9 +2,10 @@
 pub mod Numbers
 pub mod Values
 pub mod Operation
-pub mod Answer
+pub mod Steps
 pub mod Plain
 pub mod Balls
 pub mod Matryoshki
+pub mod Lists
 pub mod Exact
 pub mod Figures

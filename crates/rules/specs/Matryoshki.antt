@@ -5,7 +5,8 @@ use Rattle.rules.specs.declared.Matryoshka.{Matryoshka}
 use Rattle.rules.specs.Numbers.{h, Round, Up}
 use Rattle.rules.specs.Values.{matryoshka-reach}
 use Rattle.rules.specs.Operation.{Operation, constant, negate, add, subtract, multiply}
-use Rattle.rules.specs.Answer.{Answer, within-reach}
+use Rattle.refusals.specs.Answer.{Answer}
+use Rattle.rules.specs.Steps.{within-reach}
 
 abbrev pub matryoshka : ℤ → ℕ → ℕ → Matryoshka
 matryoshka C R r = record { middle = C; stray = R; margin = r }
@@ -19,7 +20,8 @@ matryoshka-product F x y =
     let B = y .middle in
     let S = y .stray in
     let s = y .margin in
-    matryoshka (Round F (A *ℤ B)) (Up F ((natAbs A + R) * S + natAbs B * R)) (Up F ((natAbs A + R + r) * s + (natAbs B + S) * r + h F))
+    matryoshka (Round F (A *ℤ B)) (Up F ((natAbs A + R) * S + natAbs B * R))
+    (Up F ((natAbs A + R + r) * s + (natAbs B + S) * r + h F))
 
 abbrev pub matryoshka-result : ℕ → Operation Matryoshka → Matryoshka
 matryoshka-result F (constant c) = matryoshka c 0 0

@@ -4,7 +4,8 @@ use lib.IntN.{ℤ, negℤ, _+ℤ_, _-ℤ_, _*ℤ_}
 use Rattle.rules.specs.Numbers.{Round}
 use Rattle.rules.specs.Values.{plain-reach}
 use Rattle.rules.specs.Operation.{Operation, constant, negate, add, subtract, multiply}
-use Rattle.rules.specs.Answer.{Answer, within-reach}
+use Rattle.refusals.specs.Answer.{Answer}
+use Rattle.rules.specs.Steps.{within-reach}
 
 abbrev pub plain-result : ℕ → Operation ℤ → ℤ
 plain-result F (constant c) = c

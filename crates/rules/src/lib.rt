@@ -1,4 +1,6 @@
-// The values that the rules speak of, and a step's answer in each of the three kinds. The rules themselves are in specs/.
+// The values that the rules speak of, and a step's answer in each of the three kinds. The rules themselves are in
+// specs/.
+use refusals::Refusal;
 
 // A centre and a margin, in units of 2^-F.
 pub struct Ball {
@@ -15,15 +17,15 @@ pub struct Matryoshka {
 
 pub enum PlainStep {
     Value(i64),
-    OutOfReach,
+    Refused(Refusal),
 }
 
 pub enum BallStep {
     Value(Ball),
-    OutOfReach,
+    Refused(Refusal),
 }
 
 pub enum MatryoshkaStep {
     Value(Matryoshka),
-    OutOfReach,
+    Refused(Refusal),
 }

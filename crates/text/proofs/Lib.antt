@@ -1,4 +1,3 @@
 -- The laws of the program's output, one subject a file.
-pub mod Told
-pub mod Parts
-pub mod Outcomes
+pub mod FirstLines
+pub mod OneAnswer

@@ -1,7 +1,5 @@
 -- What the three walks share.
 pub mod Programs
 pub mod Onward
-pub mod Held
-pub mod Alls
-pub mod Parts
-pub mod Triples
+pub mod Walking
+pub mod Stepping

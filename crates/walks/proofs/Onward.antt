@@ -5,19 +5,19 @@ use mathlib.Core.List.{List, [], _∷_, _++_}
 use Prim.Native.Nat.{ℕ, suc, _+_, _-_, _*_, _≤_, _<_}
 use native.Mathlib.Omega.{arith}
 use Rattle.rules.specs.Operation.{Operation}
-use Rattle.rules.specs.Answer.{Answer, value, refused}
+use Rattle.refusals.specs.Answer.{Answer, value, refused}
 use Rattle.bits.specs.declared.Cursor.{Cursor}
 use Rattle.bits.specs.Reader.{Read}
 use Rattle.bits.specs.Fields.{before}
-use Rattle.packed.specs.declared.Instruction.{Instruction}
+use Rattle.formulas.specs.declared.Instruction.{Instruction}
 use Rattle.packed.specs.Items.{read}
 use Rattle.packed.specs.Format.{instruction, several}
-use Rattle.packed.specs.WellFormed.{Smaller, Each, one}
+use Rattle.formulas.specs.Formula.{Smaller}
+use Rattle.lists.specs.Each.{Each, one}
 use Rattle.packed.specs.Walk.{Readable, Decodes}
-use Rattle.packed.proofs.WellFormed.{same-value}
+use Rattle.refusals.proofs.Answers.{same-value}
 use Rattle.formulas.specs.Run.{Walk, finished, stopped, with-values, onward, run}
-use Rattle.walks.specs.Walks.{Program}
-use Rattle.walks.proofs.Programs.{program-smaller, Split, program-split}
+use Rattle.walks.proofs.Programs.{Program, program-smaller, Split, program-split}
 
 module _ {A : Type 0} (rule : Operation A → Answer A) (d : A) where
   pub record Onward (s : List ℕ) (c₀ c : Cursor) (m l k : ℕ) (vs₀ vs : List A) : Type 0 where

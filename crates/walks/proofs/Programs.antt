@@ -2,21 +2,27 @@
 use mathlib.Core.Path.{_≡_, sym, _∙_, ap}
 use mathlib.Core.List.{List, _∷_}
 use Prim.Native.Nat.{ℕ, suc}
-use Rattle.rules.specs.Answer.{value}
+use Rattle.refusals.specs.Answer.{value}
 use Rattle.bits.specs.declared.Cursor.{Cursor}
 use Rattle.bits.specs.Reader.{Read}
 use Rattle.bits.specs.Fields.{before}
-use Rattle.bits.proofs.Digits.{bits-are, bits-drop}
-use Rattle.packed.specs.declared.Instruction.{Instruction}
+use Rattle.bits.proofs.Digits.{bits-are, are-bits-drop}
+use Rattle.formulas.specs.declared.Instruction.{Instruction}
 use Rattle.packed.specs.Items.{Form, done, read, _>>=_}
-use Rattle.packed.specs.Format.{instruction, several}
-use Rattle.packed.specs.WellFormed.{Smaller, Each}
+use Rattle.packed.specs.Format.{instruction, several, program}
+use Rattle.formulas.specs.Formula.{Smaller}
+use Rattle.lists.specs.Each.{Each}
 use Rattle.packed.proofs.InTurn.{read-bind}
-use Rattle.packed.proofs.WellFormed.{first-of, same-value, read-gives, several-gives, instruction-gives}
-use Rattle.walks.specs.Walks.{Program}
+use Rattle.refusals.proofs.Answers.{first-of, same-value}
+use Rattle.packed.proofs.WellFormed.{read-gives, several-gives, instruction-gives}
+
+-- so many instructions stand at the cursor, the first of which makes value v
+pub record Program (s : List ℕ) (c : Cursor) (count v : ℕ) : Type 0 where
+  pub all : Read (List Instruction)
+  pub reads : read (program count v) (before s c) ≡ value all
 
 pub program-smaller : {s : List ℕ} {c : Cursor} {n v : ℕ} (p : Program s c n v) → Each Smaller v (p .all .got)
-program-smaller {s} {c} {n} {v} p = read-gives (several-gives instruction-gives n v) (bits-drop (c .at) (bits-are s)) (p .reads) .0
+program-smaller {s} {c} {n} {v} p = read-gives (several-gives instruction-gives n v) (are-bits-drop (c .at) (bits-are s)) (p .reads) .0
 
 -- the first instruction, and the bits after it hold the others
 pub record Split (s : List ℕ) (c : Cursor) (n v : ℕ) (all : Read (List Instruction)) : Type 0 where

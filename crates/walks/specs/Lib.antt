@@ -1,3 +1,2 @@
--- What a walk over a checked formula's instructions leaves.
+-- What a walk over a checked formula's instructions asks and leaves.
 pub mod Walks
-pub mod Lists

@@ -1,52 +1,83 @@
--- What a walk over a checked formula's instructions leaves in the work lists, and how it ends.
+-- A walk over a checked formula's instructions, once for the three kinds: what it asks, what it leaves in the work
+-- lists, and how it ends.
 use mathlib.Core.Path.{_≡_}
-use mathlib.Core.List.{List, [], _∷_}
-use Prim.Native.Nat.{ℕ, _+_, _-_, _*_, _≤_}
-use lib.IntN.{ℤ, pos}
-use lib.ListN.{length, take}
-use Rattle.rules.specs.Answer.{value, out-of-reach}
-use Rattle.rules.specs.Plain.{plain-rule}
+use mathlib.Core.List.{List}
+use Prim.Native.Nat.{ℕ, _^_, _≤_, _<_}
+use lib.ListN.{getD}
+use Rattle.lists.specs.All.{All}
+use Rattle.refusals.specs.Refusals.{refusal-number}
+use Rattle.refusals.specs.Answer.{Answer, value}
+use Rattle.refusals.specs.Said.{Said, answered, refuses}
+use Rattle.rules.specs.Numbers.{top-scale}
 use Rattle.bits.specs.declared.Cursor.{Cursor}
 use Rattle.bits.specs.Reader.{Read}
 use Rattle.bits.specs.Fields.{before}
-use Rattle.packed.specs.declared.Instruction.{Instruction}
+use Rattle.formulas.specs.declared.Header.{Header}
+use Rattle.formulas.specs.declared.Instruction.{Instruction}
+use Rattle.formulas.specs.Formula.{Smaller, places}
+use Rattle.formulas.specs.Run.{Walk, with-values, run, made-by, walk-end}
+use Rattle.formulas.specs.Kinds.{Kind}
 use Rattle.packed.specs.Items.{read}
-use Rattle.packed.specs.Format.{program}
-use Rattle.lists.specs.Over.{over}
-use Rattle.formulas.specs.Run.{Walk, finished, stopped, run}
-use Rattle.formulas.specs.Job.{Said, answered, refuses}
+use Rattle.packed.specs.Format.{results}
+use Rattle.packed.specs.Meaning.{meant, checked}
+use Rattle.packed.specs.Walk.{Readable}
 use Rattle.walks.specs.declared.Walked.{Walked}
 use Rattle.walks.specs.declared.Walked.the-variants.{Finished, Stopped}
 
--- so many instructions stand at the cursor, the first of which makes value v
-pub record Program (s : List ℕ) (c : Cursor) (count v : ℕ) : Type 0 where
-  pub all : Read (List Instruction)
-  pub reads : read (program count v) (before s c) ≡ value all
+-- h is the header of the formula in s, the lists have room for all its values, and its inputs stand in front
+pub record Walkable (K : Kind) (s : List ℕ) (h : Header) (l : K .Lists) : Type 0 where
+  pub is-formula : checked s ≡ value h
+  pub room : places h ≤ K .room l
+  pub legal : All (K .Legal) (K .front (h .inputs) l)
 
--- P of every one
-pub data All {A : Type 0} (P : A → Type 0) : List A → Type 0 where
-  none : All P []
-  one : {a : A} {l : List A} → P a → All P l → All P (a ∷ l)
+-- an instruction stands at the cursor
+pub record Decodable (s : List ℕ) (c : Cursor) : Type 0 where
+  pub near : c .at ≤ 2 ^ 30
+  pub readable : Readable s c
 
--- the paper's number and place for each way to end
-abbrev pub walk-said : Walked → Said
-walk-said (Finished d) = answered 0
-walk-said (Stopped k) = refuses out-of-reach k
+-- the number and place for each way to end
+abbrev pub walked-said : Walked → Said
+walked-said (Finished d) = answered 0
+walked-said (Stopped r k) = refuses (refusal-number r) k
 
-abbrev pub end-said : {A : Type 0} → ℕ → Walk A → Said
-end-said m (finished vs) = answered 0
-end-said m (stopped n vs) = refuses n (length vs - m)
+-- at the cursor stand the output fields of the formula in s
+pub record AtOutputs (s : List ℕ) (d : Cursor) : Type 0 where
+  pub near : d .at ≤ 2 ^ 20
+  pub all : Read (List ℕ)
+  pub reads : read (results (meant s .header .outputs) (places (meant s .header))) (before s d) ≡ value all
+  pub are : all .got ≡ meant s .results
 
-abbrev pub made-by : {A : Type 0} → Walk A → List A
-made-by (finished vs) = vs
-made-by (stopped n vs) = vs
+abbrev pub StandsAfter : List ℕ → Walked → Type 0
+StandsAfter s (Finished d) = AtOutputs s d
+StandsAfter s (Stopped r k) = Unit {0}
 
--- a walk that finished stands after the instructions
-abbrev pub StandsAfter : List ℕ → Cursor → ℕ → Read (List Instruction) → Walked → Type 0
-StandsAfter s c l x (Finished d) = (before s d ≡ x .left) × (d .at ≤ c .at + 35 * l)
-StandsAfter s c l x (Stopped k) = Unit {0}
+abbrev pub walk-of : (K : Kind) → List ℕ → Header → K .Lists → Walk (K .Value)
+walk-of K s h l = run (K .rule (h .scale)) (K .nothing) (meant s .program) (K .front (h .inputs) l)
 
-abbrev pub PlainWalked : ℕ → List ℕ → Cursor → ℕ → ℕ → List ℤ → List ℤ → Walked → Type 0
-PlainWalked F s c m l old new r =
-    (x : Read (List Instruction)) → read (program l m) (before s c) ≡ value x
-    → (walk-said r ≡ end-said m (run (plain-rule F) (pos 0) (x .got) (take m old))) × (new ≡ over (made-by (run (plain-rule F) (pos 0) (x .got) (take m old))) old) × StandsAfter s c l x r
+-- it says how the run ends, the lists hold the values that it made, and a walk that finished stands after the
+-- instructions
+pub record Walks (K : Kind) (s : List ℕ) (h : Header) (old new : K .Lists) (r : Walked) : Type 0 where
+  pub says : walked-said r ≡ walk-end (h .inputs) (walk-of K s h old)
+  pub holds : K .Holds (made-by (walk-of K s h old)) old new
+  pub stands : StandsAfter s r
+
+-- what reading the value that an operand names asks, of the first `made`, and gives
+pub record Named (K : Kind) (made i : ℕ) (l : K .Lists) : Type 0 where
+  pub below : i < made
+  pub room : made ≤ K .room l
+  pub legal : All (K .Legal) (K .front made l)
+
+pub record Operand (K : Kind) (made i : ℕ) (l : K .Lists) (v : K .Value) : Type 0 where
+  pub is : v ≡ getD (K .front made l) i (K .nothing)
+  pub is-legal : K .Legal v
+
+-- what one instruction on the first `made` values asks, and what answers it
+pub record Steppable (K : Kind) (F : ℕ) (i : Instruction) (made : ℕ) (l : K .Lists) : Type 0 where
+  pub scale-small : F ≤ top-scale
+  pub smaller : Smaller made i
+  pub room : made ≤ K .room l
+  pub legal : All (K .Legal) (K .front made l)
+
+pub record Stepped (K : Kind) (F : ℕ) (i : Instruction) (made : ℕ) (l : K .Lists)
+    (got : Answer (K .Value)) : Type 0 where
+  pub by-rule : got ≡ K .rule F (with-values (K .nothing) (K .front made l) i)

@@ -5,3 +5,4 @@ pub mod Size
 pub mod Floor
 pub mod Order
 pub mod Machine
+pub mod Cases

@@ -41,11 +41,11 @@ same [] (w ∷ m) = false
 same (i ∷ k) [] = false
 same (i ∷ k) (w ∷ m) = cond (eqb i w) (same k m) false
 
-abbrev pub before : List ℕ → List ℕ → Bool
-before [] [] = false
-before [] (w ∷ m) = true
-before (i ∷ k) [] = false
-before (i ∷ k) (w ∷ m) = cond (ltb i w) true (cond (eqb i w) (before k m) false)
+abbrev pub earlier : List ℕ → List ℕ → Bool
+earlier [] [] = false
+earlier [] (w ∷ m) = true
+earlier (i ∷ k) [] = false
+earlier (i ∷ k) (w ∷ m) = cond (ltb i w) true (cond (eqb i w) (earlier k m) false)
 
 -- one more variable, in its place
 abbrev pub with-var : ℕ → List ℕ → List ℕ
@@ -66,7 +66,7 @@ put (negsuc n) m p = record { by = negsuc n; vars = m } ∷ p
 abbrev pub with-term : ℤ → List ℕ → List Term → List Term
 with-term z m [] = put z m []
 with-term z m (t ∷ p) =
-    cond (same m (t .vars)) (put (z +ℤ t .by) m p) (cond (before m (t .vars)) (put z m (t ∷ p)) (t ∷ with-term z m p))
+    cond (same m (t .vars)) (put (z +ℤ t .by) m p) (cond (earlier m (t .vars)) (put z m (t ∷ p)) (t ∷ with-term z m p))
 
 abbrev pub sum : List Term → List Term → List Term
 sum [] q = q
@@ -144,9 +144,9 @@ module _ (ρ : List ℤ) where
   with-term-worth : (z : ℤ) (m : List ℕ) (p : List Term) → terms-worth (with-term z m p) ≡ z *ℤ vars-worth m +ℤ terms-worth p
   with-term-worth z m [] = put-worth z m []
   with-term-worth z m (t ∷ p) =
-      either terms-worth (same m (t .vars)) (put (z +ℤ t .by) m p) (cond (before m (t .vars)) (put z m (t ∷ p)) (t ∷ with-term z m p))
+      either terms-worth (same m (t .vars)) (put (z +ℤ t .by) m p) (cond (earlier m (t .vars)) (put z m (t ∷ p)) (t ∷ with-term z m p))
       joined
-      (either terms-worth (before m (t .vars)) (put z m (t ∷ p)) (t ∷ with-term z m p) (λ u. put-worth z m (t ∷ p)) (later (with-term-worth z m p)))
+      (either terms-worth (earlier m (t .vars)) (put z m (t ∷ p)) (t ∷ with-term z m p) (λ u. put-worth z m (t ∷ p)) (later (with-term-worth z m p)))
     where
       joined : T (same m (t .vars)) → terms-worth (put (z +ℤ t .by) m p) ≡ z *ℤ vars-worth m +ℤ terms-worth (t ∷ p)
       joined u =

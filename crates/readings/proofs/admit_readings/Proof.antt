@@ -6,8 +6,8 @@ use native.Mathlib.Omega.{arith}
 use borrow.Author.Needs.{needs}
 use lib.Dec.{eqb}
 use lib.ListN.{length, drop}
-use Rattle.readings.specs.Readings.{all-matryoshki}
-use Rattle.readings.proofs.Passing.{counted, miscounted, goes-on, stops, matryoshka-kept, matryoshka-one, matryoshka-none}
+use Rattle.formulas.specs.Readings.{all-matryoshki}
+use Rattle.readings.proofs.Passing.{count-passes, count-fails, goes-on, stops, matryoshka-kept, matryoshka-one, matryoshka-none}
 use Rattle.readings.proofs.admit_readings.Statement.{statement}
 use Rattle.readings.proofs.admit_readings.Tie as tie
 
@@ -21,44 +21,23 @@ returns : tie.Need-returns Inv-loop μ-loop
 returns c =
     let a = c .before .args in
     let all = all-matryoshki (a .middles .now) (a .strays .now) (a .margins .now) in
-    sym (miscounted (eqb (length (a .strays .now)) (a .m) && (eqb (length (a .margins .now)) (a .m) && all)) (c .if1 .taken))
+    sym (count-fails (eqb (length (a .strays .now)) (a .m) && (eqb (length (a .margins .now)) (a .m) && all)) (c .if1 .taken))
 
 returns-2 : tie.Need-returns-2 Inv-loop μ-loop
 returns-2 c =
     let a = c .before .before .args in
     let rest = eqb (length (a .margins .now)) (a .m) && all-matryoshki (a .middles .now) (a .strays .now) (a .margins .now) in
-    sym (counted (eqb (length (a .strays .now)) (a .m) && rest) (c .before .if1 .left) ∙ miscounted rest (c .if2 .taken))
+    sym (count-passes (eqb (length (a .strays .now)) (a .m) && rest) (c .before .if1 .left) ∙ count-fails rest (c .if2 .taken))
 
 returns-3 : tie.Need-returns-3 Inv-loop μ-loop
 returns-3 c =
     let a = c .before .before .before .args in
     let all = all-matryoshki (a .middles .now) (a .strays .now) (a .margins .now) in
     let rest = eqb (length (a .margins .now)) (a .m) && all in
-    sym (counted (eqb (length (a .strays .now)) (a .m) && rest) (c .before .before .if1 .left) ∙ counted rest (c .before .if2 .left) ∙ miscounted all (c .if3 .taken))
+    sym (count-passes (eqb (length (a .strays .now)) (a .m) && rest) (c .before .before .if1 .left) ∙ count-passes rest (c .before .if2 .left) ∙ count-fails all (c .if3 .taken))
 
 loop-holds : tie.Need-loop-holds Inv-loop μ-loop
 loop-holds c = (search needs, refl)
-
-mul-c : tie.Need-mul-c Inv-loop μ-loop
-mul-c c = search needs
-
-shared-slice-copy-out-c : tie.Need-shared-slice-copy-out-c Inv-loop μ-loop
-shared-slice-copy-out-c c = search needs
-
-mul-s : tie.Need-mul-s Inv-loop μ-loop
-mul-s c = search needs
-
-shared-slice-copy-out-s : tie.Need-shared-slice-copy-out-s Inv-loop μ-loop
-shared-slice-copy-out-s c = search needs
-
-mul-r : tie.Need-mul-r Inv-loop μ-loop
-mul-r c = search needs
-
-shared-slice-copy-out-r : tie.Need-shared-slice-copy-out-r Inv-loop μ-loop
-shared-slice-copy-out-r c = search needs
-
-matryoshka-fits-requires : tie.Need-matryoshka-fits-requires Inv-loop μ-loop
-matryoshka-fits-requires c κs = search needs
 
 returns-4 : tie.Need-returns-4 Inv-loop μ-loop
 returns-4 c =
@@ -75,16 +54,10 @@ returns-4 c =
     let rest = eqb (length rs) (a .m) && all in
     let next = all-matryoshki (drop (i + 1) cs) (drop (i + 1) ss) (drop (i + 1) rs) in
     sym
-    (counted (eqb (length ss) (a .m) && rest) (at .before .before .before .if1 .left)
-    ∙ counted rest (at .before .before .if2 .left)
-    ∙ counted all (at .before .if3 .left)
+    (count-passes (eqb (length ss) (a .m) && rest) (at .before .before .before .if1 .left)
+    ∙ count-passes rest (at .before .before .if2 .left)
+    ∙ count-passes all (at .before .if3 .left)
     ∙ stops next (at .loop .inv .1 ∙ matryoshka-one cs ss rs i (omega arith) (omega arith) (omega arith)) this (c .if4 .taken))
-
-add-i : tie.Need-add-i Inv-loop μ-loop
-add-i c = search needs
-
-loop-less : tie.Need-loop-less Inv-loop μ-loop
-loop-less c = search needs
 
 loop-again : tie.Need-loop-again Inv-loop μ-loop
 loop-again c =
@@ -109,9 +82,9 @@ returns-5 c =
     let all = all-matryoshki cs ss rs in
     let rest = eqb (length rs) (a .m) && all in
     sym
-    (counted (eqb (length ss) (a .m) && rest) (at .before .before .before .if1 .left)
-    ∙ counted rest (at .before .before .if2 .left)
-    ∙ counted all (at .before .if3 .left)
+    (count-passes (eqb (length ss) (a .m) && rest) (at .before .before .before .if1 .left)
+    ∙ count-passes rest (at .before .before .if2 .left)
+    ∙ count-passes all (at .before .if3 .left)
     ∙ at .loop .inv .1 ∙ matryoshka-none cs ss rs (at .loop .i) (omega arith))
 
 pub admit-readings-spec : {M : Type 1} → statement M
@@ -124,15 +97,15 @@ admit-readings-spec =
     returns-2
     returns-3
     loop-holds
-    mul-c
-    shared-slice-copy-out-c
-    mul-s
-    shared-slice-copy-out-s
-    mul-r
-    shared-slice-copy-out-r
-    matryoshka-fits-requires
+    (λ c. search needs)
+    (λ c. search needs)
+    (λ c. search needs)
+    (λ c. search needs)
+    (λ c. search needs)
+    (λ c. search needs)
+    (λ c κs. search needs)
     returns-4
-    add-i
-    loop-less
+    (λ c. search needs)
+    (λ c. search needs)
     loop-again
     returns-5)

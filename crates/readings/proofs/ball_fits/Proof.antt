@@ -18,15 +18,6 @@ returns c =
     let s = c .before in
     sym (failed (leb (natAbs (s .args .c) + natAbs (s .args .r)) M) (below-zero (s .args .r) (s .fits .r) (c .if1 .taken)))
 
-magnitude-requires : tie.Need-magnitude-requires
-magnitude-requires c κs = search needs
-
-magnitude-requires-2 : tie.Need-magnitude-requires-2
-magnitude-requires-2 c κs = search needs
-
-within-requires : tie.Need-within-requires
-within-requires c κs = search needs
-
 returns-2 : tie.Need-returns-2
 returns-2 c =
     let s = c .before .before .before .before in
@@ -41,4 +32,4 @@ returns-2 c =
 
 pub ball-fits-spec : {M : Type 1} → statement M
 ball-fits-spec =
-    tie.close (tie.spec returns magnitude-requires magnitude-requires-2 within-requires returns-2)
+    tie.close (tie.spec returns (λ c κs. search needs) (λ c κs. search needs) (λ c κs. search needs) returns-2)

@@ -6,8 +6,8 @@ use native.Mathlib.Omega.{arith}
 use borrow.Author.Needs.{needs}
 use lib.Dec.{eqb}
 use lib.ListN.{length, drop}
-use Rattle.readings.specs.Readings.{all-balls}
-use Rattle.readings.proofs.Passing.{counted, miscounted, goes-on, stops, ball-kept, ball-one, ball-none}
+use Rattle.formulas.specs.Readings.{all-balls}
+use Rattle.readings.proofs.Passing.{count-passes, count-fails, goes-on, stops, ball-kept, ball-one, ball-none}
 use Rattle.readings.proofs.ball_readings.Statement.{statement}
 use Rattle.readings.proofs.ball_readings.Tie as tie
 
@@ -20,31 +20,16 @@ abbrev μ-loop : tie.MeasureT-loop
 returns : tie.Need-returns Inv-loop μ-loop
 returns c =
     let a = c .before .args in
-    sym (miscounted (eqb (length (a .margins .now)) (a .m) && all-balls (a .centres .now) (a .margins .now)) (c .if1 .taken))
+    sym (count-fails (eqb (length (a .margins .now)) (a .m) && all-balls (a .centres .now) (a .margins .now)) (c .if1 .taken))
 
 returns-2 : tie.Need-returns-2 Inv-loop μ-loop
 returns-2 c =
     let a = c .before .before .args in
     let all = all-balls (a .centres .now) (a .margins .now) in
-    sym (counted (eqb (length (a .margins .now)) (a .m) && all) (c .before .if1 .left) ∙ miscounted all (c .if2 .taken))
+    sym (count-passes (eqb (length (a .margins .now)) (a .m) && all) (c .before .if1 .left) ∙ count-fails all (c .if2 .taken))
 
 loop-holds : tie.Need-loop-holds Inv-loop μ-loop
 loop-holds c = (search needs, refl)
-
-mul-c : tie.Need-mul-c Inv-loop μ-loop
-mul-c c = search needs
-
-shared-slice-copy-out-c : tie.Need-shared-slice-copy-out-c Inv-loop μ-loop
-shared-slice-copy-out-c c = search needs
-
-mul-r : tie.Need-mul-r Inv-loop μ-loop
-mul-r c = search needs
-
-shared-slice-copy-out-r : tie.Need-shared-slice-copy-out-r Inv-loop μ-loop
-shared-slice-copy-out-r c = search needs
-
-ball-fits-requires : tie.Need-ball-fits-requires Inv-loop μ-loop
-ball-fits-requires c κs = search needs
 
 returns-3 : tie.Need-returns-3 Inv-loop μ-loop
 returns-3 c =
@@ -55,15 +40,9 @@ returns-3 c =
     let i = at .loop .i in
     let this = ball-kept cs rs i (c .before .before .before .c .given) (c .before .before .r .given) (c .before .ball-fits .ensures) in
     sym
-    (counted (eqb (length rs) (a .m) && all-balls cs rs) (at .before .before .if1 .left)
-    ∙ counted (all-balls cs rs) (at .before .if2 .left)
+    (count-passes (eqb (length rs) (a .m) && all-balls cs rs) (at .before .before .if1 .left)
+    ∙ count-passes (all-balls cs rs) (at .before .if2 .left)
     ∙ stops (all-balls (drop (i + 1) cs) (drop (i + 1) rs)) (at .loop .inv .1 ∙ ball-one cs rs i (omega arith) (omega arith)) this (c .if3 .taken))
-
-add-i : tie.Need-add-i Inv-loop μ-loop
-add-i c = search needs
-
-loop-less : tie.Need-loop-less Inv-loop μ-loop
-loop-less c = search needs
 
 loop-again : tie.Need-loop-again Inv-loop μ-loop
 loop-again c =
@@ -82,8 +61,8 @@ returns-4 c =
     let cs = a .centres .now in
     let rs = a .margins .now in
     sym
-    (counted (eqb (length rs) (a .m) && all-balls cs rs) (at .before .before .if1 .left)
-    ∙ counted (all-balls cs rs) (at .before .if2 .left)
+    (count-passes (eqb (length rs) (a .m) && all-balls cs rs) (at .before .before .if1 .left)
+    ∙ count-passes (all-balls cs rs) (at .before .if2 .left)
     ∙ at .loop .inv .1 ∙ ball-none cs rs (at .loop .i) (omega arith))
 
 pub ball-readings-spec : {M : Type 1} → statement M
@@ -95,13 +74,13 @@ ball-readings-spec =
     returns
     returns-2
     loop-holds
-    mul-c
-    shared-slice-copy-out-c
-    mul-r
-    shared-slice-copy-out-r
-    ball-fits-requires
+    (λ c. search needs)
+    (λ c. search needs)
+    (λ c. search needs)
+    (λ c. search needs)
+    (λ c κs. search needs)
     returns-3
-    add-i
-    loop-less
+    (λ c. search needs)
+    (λ c. search needs)
     loop-again
     returns-4)

@@ -29,18 +29,6 @@ returns-2 c =
     (passed (nonNeg (s .args .r) && t) (at-least-zero (s .args .s) (s .fits .s) (c .before .if1 .left))
     ∙ failed t (below-zero (s .args .r) (s .fits .r) (c .if2 .taken)))
 
-magnitude-requires : tie.Need-magnitude-requires
-magnitude-requires c κs = search needs
-
-magnitude-requires-2 : tie.Need-magnitude-requires-2
-magnitude-requires-2 c κs = search needs
-
-magnitude-requires-3 : tie.Need-magnitude-requires-3
-magnitude-requires-3 c κs = search needs
-
-within-requires : tie.Need-within-requires
-within-requires c κs = search needs
-
 returns-3 : tie.Need-returns-3
 returns-3 c =
     let s = c .before .before .before .before .before .before in
@@ -65,8 +53,8 @@ matryoshka-fits-spec =
     (tie.spec
     returns
     returns-2
-    magnitude-requires
-    magnitude-requires-2
-    magnitude-requires-3
-    within-requires
+    (λ c κs. search needs)
+    (λ c κs. search needs)
+    (λ c κs. search needs)
+    (λ c κs. search needs)
     returns-3)

@@ -10,12 +10,6 @@ use Rattle.whole.proofs.Order.{leb-same}
 use Rattle.readings.proofs.plain_fits.Statement.{statement}
 use Rattle.readings.proofs.plain_fits.Tie as tie
 
-magnitude-requires : tie.Need-magnitude-requires
-magnitude-requires c κs = search needs
-
-within-requires : tie.Need-within-requires
-within-requires c κs = search needs
-
 returns : tie.Need-returns
 returns c =
     let s = c .before .before in
@@ -25,4 +19,4 @@ returns c =
     c .within .ensures ∙ leb-same (m .result + 0 + 0) M (natAbs x) M (omega arith) (omega arith)
 
 pub plain-fits-spec : {M : Type 1} → statement M
-plain-fits-spec = tie.close (tie.spec magnitude-requires within-requires returns)
+plain-fits-spec = tie.close (tie.spec (λ c κs. search needs) (λ c κs. search needs) returns)

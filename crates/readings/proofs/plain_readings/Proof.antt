@@ -4,8 +4,8 @@ use Prim.Native.Nat.{_+_, _-_, _≤_}
 use native.Mathlib.Omega.{arith}
 use borrow.Author.Needs.{needs}
 use lib.ListN.{drop}
-use Rattle.readings.specs.Readings.{all-plain}
-use Rattle.readings.proofs.Passing.{counted, miscounted, goes-on, stops, plain-kept, plain-one, plain-none}
+use Rattle.formulas.specs.Readings.{all-plain}
+use Rattle.readings.proofs.Passing.{count-passes, count-fails, goes-on, stops, plain-kept, plain-one, plain-none}
 use Rattle.readings.proofs.plain_readings.Statement.{statement}
 use Rattle.readings.proofs.plain_readings.Tie as tie
 
@@ -18,19 +18,10 @@ abbrev μ-loop : tie.MeasureT-loop
 returns : tie.Need-returns Inv-loop μ-loop
 returns c =
     let a = c .before .args in
-    sym (miscounted (all-plain (a .readings .now)) (c .if1 .taken))
+    sym (count-fails (all-plain (a .readings .now)) (c .if1 .taken))
 
 loop-holds : tie.Need-loop-holds Inv-loop μ-loop
 loop-holds c = (search needs, refl)
-
-mul-x : tie.Need-mul-x Inv-loop μ-loop
-mul-x c = search needs
-
-shared-slice-copy-out-x : tie.Need-shared-slice-copy-out-x Inv-loop μ-loop
-shared-slice-copy-out-x c = search needs
-
-plain-fits-requires : tie.Need-plain-fits-requires Inv-loop μ-loop
-plain-fits-requires c κs = search needs
 
 returns-2 : tie.Need-returns-2 Inv-loop μ-loop
 returns-2 c =
@@ -39,14 +30,8 @@ returns-2 c =
     let i = at .loop .i in
     let this = plain-kept xs i (c .before .before .x .given) (c .before .plain-fits .ensures) in
     sym
-    (counted (all-plain xs) (at .before .if1 .left)
+    (count-passes (all-plain xs) (at .before .if1 .left)
     ∙ stops (all-plain (drop (i + 1) xs)) (at .loop .inv .1 ∙ plain-one xs i (omega arith)) this (c .if2 .taken))
-
-add-i : tie.Need-add-i Inv-loop μ-loop
-add-i c = search needs
-
-loop-less : tie.Need-loop-less Inv-loop μ-loop
-loop-less c = search needs
 
 loop-again : tie.Need-loop-again Inv-loop μ-loop
 loop-again c =
@@ -60,7 +45,7 @@ returns-3 : tie.Need-returns-3 Inv-loop μ-loop
 returns-3 c =
     let at = c .before in
     let xs = at .before .before .args .readings .now in
-    sym (counted (all-plain xs) (at .before .if1 .left) ∙ at .loop .inv .1 ∙ plain-none xs (at .loop .i) (omega arith))
+    sym (count-passes (all-plain xs) (at .before .if1 .left) ∙ at .loop .inv .1 ∙ plain-none xs (at .loop .i) (omega arith))
 
 pub plain-readings-spec : {M : Type 1} → statement M
 plain-readings-spec =
@@ -70,11 +55,11 @@ plain-readings-spec =
     μ-loop
     returns
     loop-holds
-    mul-x
-    shared-slice-copy-out-x
-    plain-fits-requires
+    (λ c. search needs)
+    (λ c. search needs)
+    (λ c κs. search needs)
     returns-2
-    add-i
-    loop-less
+    (λ c. search needs)
+    (λ c. search needs)
     loop-again
     returns-3)

@@ -37,21 +37,27 @@ use denote.Triple.Clauses.{Lasts, ensured, lasts}
 use denote.Triple.Table.{entered, cited}
 use denote.Triple.Walked.{says, Stays, stay-none-slice, gave-slice, walkOf, AllGo, goes-none-slice, goes-gave-slice, Walks, ends-at, walked, walk-meets}
 use denote.Exit.{yes}
-use Rattle.doors.specs.declared.MarginsBall.{MarginsBall}
+use Rattle.columns.specs.declared.MarginsBall.{MarginsBall}
 use Rattle.doors.specs.declared.MarginsReply.{MarginsReply}
-use Rattle.doors.specs.declared.records.Columns.{Columns}
-use Rattle.doors.specs.Doors.{BallDoor}
-use Rattle.doors.specs.Records.{Columned, centre-of, margin-of}
-use Rattle.doors.proofs.Copied.{columns-door, within-columns}
-use Rattle.doors.proofs.MarginsBall as B
+use Rattle.columns.specs.declared.Columns.{Columns}
+use Rattle.rules.specs.Lists.{ball-lists}
+use Rattle.formulas.specs.Readings.{ball-readings}
+use Rattle.formulas.specs.Kinds.{ball-kind}
+use Rattle.formulas.specs.Job.{lent}
+use Rattle.packed.specs.Meaning.{formula}
+use Rattle.doors.specs.Doors.{Door}
+use Rattle.columns.specs.Records.{Columned, centre-of, margin-of}
+use Rattle.columns.proofs.Adding.{within-columns}
+use Rattle.doors.proofs.Copied.{columns-door}
+use Rattle.columns.proofs.MarginsBall as B
 use Rattle.doors.proofs.MarginsReply as R
 use Rattle.doors.proofs.MarginsReply.Laws as R′
-use Rattle.doors.proofs.records.Columns as T
-use Rattle.doors.proofs.records.Columns.Laws as T′
-use Rattle.doors.proofs.records.columns_of as columns-of
-use Rattle.doors.proofs.records.columns_of.Symbol as columns-of-def
-use Rattle.doors.proofs.records.columns_of.Symbol.{name as #columns-of}
-use Rattle.doors.proofs.records.columns_of.Met as columns-of-thm
+use Rattle.columns.proofs.Columns as T
+use Rattle.columns.proofs.Columns.Laws as T′
+use Rattle.columns.proofs.columns_of as columns-of
+use Rattle.columns.proofs.columns_of.Symbol as columns-of-def
+use Rattle.columns.proofs.columns_of.Symbol.{name as #columns-of}
+use Rattle.columns.proofs.columns_of.Met as columns-of-thm
 use Rattle.doors.proofs.records.run as run′
 use Rattle.doors.proofs.records.run.Symbol as run-def
 use Rattle.doors.proofs.records.run.Symbol.{name as #run}
@@ -115,7 +121,7 @@ module _ {M : Type 1} (𝓤 : URA M) (H : Heap 𝓤) (A : Atoms 𝓤) (W : Given
   Handed = ‵ (flft κ₀ q₀) ⊛ (‵ (flft κ₂ q₂) ⊛ (‵ (flft κ₃ q₃) ⊛ (‵ (flft κ₄ q₄) ⊛ (‵ (flft κ₅ q₅) ⊛ ‵ ftrue))))
 
   exits : (r : MarginsReply) (w : Val) (wc₁ : List ℤ) (wm₁ : List ℕ) (oc₁ : List ℤ) (om₁ : List ℕ)
-      → BallDoor (now f) (map centre-of (now y)) (map margin-of (now y)) (now wc) (now wm) (now oc) (now om) wc₁ wm₁ oc₁ om₁ r
+      → Door ball-kind (formula (now f)) (ball-readings (map centre-of (now y)) (map margin-of (now y))) (lent ball-kind (ball-lists (now wc) (now wm)) (ball-lists (now oc) (now om))) (lent ball-kind (ball-lists wc₁ wm₁) (ball-lists oc₁ om₁)) r
       → length wc₁ ≡ length (now wc) → length wm₁ ≡ length (now wm) → length oc₁ ≡ length (now oc) → length om₁ ≡ length (now om)
       → ent 𝓤 (⋆ 𝓤 H A (Tokens ∷ ‵ (finally u64 (name om) om₁) ∷ ‵ (finally i64 (name oc) oc₁) ∷ ‵ (finally u64 (name wm) wm₁) ∷ ‵ (finally i64 (name wc) wc₁) ∷ ‵ Oy ∷ ‵ Of ∷ ‵ (R.the-row .own r (w ∷ [])) ∷ [])) (Post w)
   exits r w wc₁ wm₁ oc₁ om₁ d e₁ e₂ e₃ e₄ =
@@ -149,11 +155,11 @@ module _ {M : Type 1} (𝓤 : URA M) (H : Heap 𝓤) (A : Atoms 𝓤) (W : Given
   goes-run l v h = qed W (Handed ∷ ‵ (Owned l v) ∷ []) ∵ says ! (within-columns (now y) l h) $ done !
 
   abbrev Said : (l : Columns) → Lasts run′.ended handed-κs (handed l) → MarginsReply → Type 0
-  Said l zs r = BallDoor (now f) (take (l .count) (l .centres)) (take (l .count) (l .margins)) (now wc) (now wm) (now oc) (now om) (zs .1 .1 .0) (zs .1 .1 .1 .0) (zs .1 .1 .1 .1 .0) (zs .1 .1 .1 .1 .1 .0) r
+  Said l zs r = Door ball-kind (formula (now f)) (ball-readings (take (l .count) (l .centres)) (take (l .count) (l .margins))) (lent ball-kind (ball-lists (now wc) (now wm)) (ball-lists (now oc) (now om))) (lent ball-kind (ball-lists (zs .1 .1 .0) (zs .1 .1 .1 .0)) (ball-lists (zs .1 .1 .1 .1 .0) (zs .1 .1 .1 .1 .1 .0))) r
 
   told : (l : Columns) (zs : Lasts run′.ended handed-κs (handed l)) (r : MarginsReply) → Columned l (take 17 (now y)) → Said l zs r
-      → BallDoor (now f) (map centre-of (now y)) (map margin-of (now y)) (now wc) (now wm) (now oc) (now om) (zs .1 .1 .0) (zs .1 .1 .1 .0) (zs .1 .1 .1 .1 .0) (zs .1 .1 .1 .1 .1 .0) r
-  told l zs r h d = columns-door (now f) (now y) l (now wc) (now wm) (now oc) (now om) (zs .1 .1 .0) (zs .1 .1 .1 .0) (zs .1 .1 .1 .1 .0) (zs .1 .1 .1 .1 .1 .0) r h d
+      → Door ball-kind (formula (now f)) (ball-readings (map centre-of (now y)) (map margin-of (now y))) (lent ball-kind (ball-lists (now wc) (now wm)) (ball-lists (now oc) (now om))) (lent ball-kind (ball-lists (zs .1 .1 .0) (zs .1 .1 .1 .0)) (ball-lists (zs .1 .1 .1 .1 .0) (zs .1 .1 .1 .1 .1 .0))) r
+  told l zs r h d = columns-door (now f) (now y) l h d
 
   module _ (𝓣 : Tables 𝓤 H) (known-columns : Triple 𝓤 (𝓣 .C #columns-of) (ColumnsOf 𝓤 H A mem run)) (known-run : Triple 𝓤 (𝓣 .C #run) (Run 𝓤 H A mem run))
       (g₀ : Room u8 (length (now f))) (g₁ : Room B.the-row (length (now y))) (g₂ : Room i64 (length (now wc))) (g₃ : Room u64 (length (now wm))) (g₄ : Room i64 (length (now oc))) (g₅ : Room u64 (length (now om))) where
@@ -247,5 +253,5 @@ margins-ball-records-spec 𝓤 H 𝓜 𝓖 𝓡 =
     entered 𝓤 H (tripleOf 𝓤 H (𝓖 .A) door.signature (door.spec 𝓤 H (𝓖 .A) (𝓜 .mem) (𝓡 .run)))
     (tables 𝓤 H 𝓜 𝓡 code.env .C) (tables 𝓤 H 𝓜 𝓡 code.env .Λ) #door code.function (code.unfolded 𝓤 H 𝓜 𝓡)
     (door-meets 𝓤 H (𝓖 .A) (givenOf 𝓤 H 𝓜 𝓖) (𝓜 .mem) (𝓡 .run) (tablesOf 𝓤 H 𝓜 (tables 𝓤 H 𝓜 𝓡 code.env))
-    (cited 𝓤 H (ColumnsOf 𝓤 H (𝓖 .A) (𝓜 .mem) (𝓡 .run)) 𝓜 𝓡 code.env #columns-of columns-of-def.routine code.calls-doors·records·columns-of (columns-of-thm.met 𝓤 H 𝓜 𝓖 𝓡))
+    (cited 𝓤 H (ColumnsOf 𝓤 H (𝓖 .A) (𝓜 .mem) (𝓡 .run)) 𝓜 𝓡 code.env #columns-of columns-of-def.routine code.calls-columns·columns-of (columns-of-thm.met 𝓤 H 𝓜 𝓖 𝓡))
     (cited 𝓤 H (Run 𝓤 H (𝓖 .A) (𝓜 .mem) (𝓡 .run)) 𝓜 𝓡 code.env #run run-def.routine code.calls-doors·records·run (run-thm.met 𝓤 H 𝓜 𝓖 𝓡)))

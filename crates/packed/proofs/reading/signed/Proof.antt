@@ -13,12 +13,6 @@ use Rattle.packed.proofs.Instructions.{twos-complement-low, twos-comple
 use Rattle.packed.proofs.reading.signed.Statement.{statement}
 use Rattle.packed.proofs.reading.signed.Tie as tie
 
-cast-result : tie.Need-cast-result
-cast-result c = search needs
-
-cast-result-2 : tie.Need-cast-result-2
-cast-result-2 c = search needs
-
 sub-result : tie.Need-sub-result
 sub-result c =
     let w : Within (pos (c .before .args .n) ∷ []) (2 ^ 32 ∷ []) = more (le-of-lt (c .before .pre)) none in
@@ -36,4 +30,4 @@ returns-2 c =
     held-is w (x₀ ⊖ lit (pos (2 ^ 32))) tt ∙ sym (twos-complement-high n (c .if1 .left))
 
 pub signed-spec : {M : Type 1} → statement M
-signed-spec = tie.close (tie.spec cast-result cast-result-2 sub-result returns returns-2)
+signed-spec = tie.close (tie.spec (λ c. search needs) (λ c. search needs) sub-result returns returns-2)

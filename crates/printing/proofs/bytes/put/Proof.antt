@@ -4,17 +4,7 @@ use Rattle.printing.proofs.Again.{wrote-byte}
 use Rattle.printing.proofs.bytes.put.Statement.{statement}
 use Rattle.printing.proofs.bytes.put.Tie as tie
 
-slice-write-out : tie.Need-slice-write-out
-slice-write-out c = search needs
-
-add-result : tie.Need-add-result
-add-result c = search needs
-
-same-length : tie.Need-same-length
-same-length c = search needs
-
-returns : tie.Need-returns
-returns c = wrote-byte (c .args .b) (c .pre)
-
 pub put-spec : {M : Type 1} → statement M
-put-spec = tie.close (tie.spec slice-write-out add-result same-length returns)
+put-spec =
+    tie.close (tie.spec (λ c. search needs) (λ c. search needs) (λ c. search needs)
+    (λ c. wrote-byte (c .args .b) (c .pre)))

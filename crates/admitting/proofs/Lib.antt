@@ -1,0 +1,2 @@
+-- The laws of the admit run.
+pub mod Copying

@@ -1,0 +1,2 @@
+-- The laws of the ball run.
+pub mod Copying

@@ -1,0 +1,18 @@
+-- `ready` meets its contract. Assumes nothing.
+use borrow.Author.Needs.{needs}
+use Rattle.formulas.specs.Kinds.{ball-kind}
+use Rattle.running.proofs.Readiness.{ready-unread, ball-ready}
+use Rattle.ball_run.proofs.ready.Statement.{statement}
+use Rattle.ball_run.proofs.ready.Tie as tie
+
+pub ready-spec : {M : Type 1} → statement M
+ready-spec =
+    tie.close
+    (tie.spec
+    (λ c κs. search needs)
+    (λ c. search needs)
+    (λ c. search needs)
+    (λ c κs. search needs)
+    (λ c κs. search needs)
+    (λ c. search (ready-unread ball-kind))
+    (λ c. search ball-ready))

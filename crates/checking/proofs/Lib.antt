@@ -1,0 +1,6 @@
+-- The laws of the check, one subject a file.
+pub mod Headings
+pub mod Several
+pub mod Paddings
+pub mod Checks
+pub mod OneCheck

@@ -1,0 +1,2 @@
+-- What the check answers.
+pub mod CheckAnswers

@@ -1,0 +1,17 @@
+// Whether bytes are a formula: the header, all the instructions, all the outputs, the padding.
+use formulas::Header;
+use refusals::Refusal;
+
+pub mod checking;
+pub mod heading;
+pub mod passing;
+
+pub enum Passed {
+    At(bits::Cursor),
+    Refused(Refusal),
+}
+
+pub enum Checked {
+    Formula(Header),
+    Refused(Refusal),
+}

@@ -1,0 +1,2 @@
+-- The laws of the columns.
+pub mod Adding

@@ -1,0 +1,17 @@
+-- `margins_check` meets its contract. Assumes nothing.
+use borrow.Author.Needs.{needs}
+use Rattle.doors.proofs.Telling.{checked-limits, told-formula, told-unread}
+use Rattle.doors.proofs.check_door.margins_check.Statement.{statement}
+use Rattle.doors.proofs.check_door.margins_check.Tie as tie
+
+pub margins-check-spec : {M : Type 1} → statement M
+margins-check-spec =
+    tie.close
+    (tie.spec
+    (λ c κs. search needs)
+    (λ c. search needs)
+    (λ c κs. search checked-limits)
+    (λ c. search needs)
+    (λ c κs. search needs)
+    (λ c. search told-formula)
+    (λ c. search told-unread))

@@ -1,0 +1,2 @@
+-- The laws of hex.
+pub mod Hexes

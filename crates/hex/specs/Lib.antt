@@ -1,0 +1,2 @@
+-- The formula's line, in hex.
+pub mod Hex

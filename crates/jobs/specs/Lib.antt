@@ -1,2 +1,0 @@
--- What each job replies and leaves in the memory that a caller lends.
-pub mod Jobs

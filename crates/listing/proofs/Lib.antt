@@ -1,0 +1,3 @@
+-- The laws of output lines, one subject a file.
+pub mod Line
+pub mod Listed

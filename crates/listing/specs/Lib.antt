@@ -1,0 +1,2 @@
+-- The lines that the program prints of a run's outputs, as bytes.
+pub mod OutputLines

@@ -1,0 +1,2 @@
+-- The laws of the walk on matryoshki.
+pub mod Turns

@@ -1,0 +1,86 @@
+// The instructions on matryoshki.
+ghost use mathlib.Core.Path.{_≡_};
+ghost use Prim.Native.Nat.{_+_, _^_, _≤_, _<_};
+ghost use Rattle.rules.specs.Numbers.{top-scale};
+ghost use Rattle.rules.specs.Values.{IsMatryoshka, matryoshka-reach};
+ghost use Rattle.rules.specs.Operation.{Operation};
+ghost use Rattle.rules.specs.Steps.{AtEveryScale, within-reach, matryoshka-answer};
+ghost use Rattle.rules.specs.Matryoshki.{matryoshka-rule};
+use refusals::Refusal;
+use rules::Matryoshka;
+use rules::MatryoshkaStep;
+
+// m, or refusal 11 where its reach is over the limit.
+fn keep(m: Matryoshka) -> MatryoshkaStep
+    requires { ⌜ m .stray + m .margin < 2 ^ 63 ⌝ }
+    ensures { λ r. ⌜ matryoshka-answer r ≡ within-reach matryoshka-reach m ⌝ }
+{
+    let stray = m.stray;
+    let margin = m.margin;
+    if rounding::sum_within(whole::magnitude(m.middle), stray, margin) {
+        MatryoshkaStep::Value(m)
+    } else {
+        MatryoshkaStep::Refused(Refusal::OutOfReach)
+    }
+}
+
+pub fn constant(c: i64) -> MatryoshkaStep
+    ensures { λ r. ⌜ AtEveryScale matryoshka-rule (Operation.constant c) (matryoshka-answer r) ⌝ }
+{
+    keep(Matryoshka {
+        middle: c,
+        stray: 0,
+        margin: 0,
+    })
+}
+
+pub fn negate(x: Matryoshka) -> MatryoshkaStep
+    requires { ⌜ IsMatryoshka x ⌝ }
+    ensures { λ r. ⌜ AtEveryScale matryoshka-rule (Operation.negate x) (matryoshka-answer r) ⌝ }
+{
+    keep(Matryoshka {
+        middle: -x.middle,
+        stray: x.stray,
+        margin: x.margin,
+    })
+}
+
+pub fn add(x: Matryoshka, y: Matryoshka) -> MatryoshkaStep
+    requires { ⌜ IsMatryoshka x × IsMatryoshka y ⌝ }
+    ensures { λ r. ⌜ AtEveryScale matryoshka-rule (Operation.add x y) (matryoshka-answer r) ⌝ }
+{
+    keep(Matryoshka {
+        middle: x.middle + y.middle,
+        stray: x.stray + y.stray,
+        margin: x.margin + y.margin,
+    })
+}
+
+pub fn subtract(x: Matryoshka, y: Matryoshka) -> MatryoshkaStep
+    requires { ⌜ IsMatryoshka x × IsMatryoshka y ⌝ }
+    ensures { λ r. ⌜ AtEveryScale matryoshka-rule (Operation.subtract x y) (matryoshka-answer r) ⌝ }
+{
+    keep(Matryoshka {
+        middle: x.middle - y.middle,
+        stray: x.stray + y.stray,
+        margin: x.margin + y.margin,
+    })
+}
+
+pub fn multiply(scale: u32, x: Matryoshka, y: Matryoshka) -> MatryoshkaStep
+    requires { ⌜ (scale ≤ top-scale) × IsMatryoshka x × IsMatryoshka y ⌝ }
+    ensures { λ r. ⌜ matryoshka-answer r ≡ matryoshka-rule scale (Operation.multiply x y) ⌝ }
+{
+    let middle = rounding::product(scale, x.middle, y.middle);
+    let far_x = whole::magnitude(x.middle) + x.stray;
+    let size_y = whole::magnitude(y.middle);
+    let strays = rounding::spread(far_x, y.stray, size_y, x.stray);
+    let doubts = rounding::spread(far_x + x.margin, y.margin, size_y + y.stray, x.margin);
+    let stray = rounding::up(scale, strays);
+    let margin = rounding::up(scale, doubts + rounding::half(scale));
+    keep(Matryoshka {
+        middle,
+        stray,
+        margin,
+    })
+}

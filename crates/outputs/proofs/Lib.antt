@@ -1,0 +1,3 @@
+-- The laws of picking, one subject a file.
+pub mod Outputs
+pub mod Turns

@@ -1,0 +1,2 @@
+-- Which outputs can be picked, and what picking them leaves.
+pub mod Picking

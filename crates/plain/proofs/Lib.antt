@@ -1,0 +1,2 @@
+-- The laws of the walk on plain values.
+pub mod Turns

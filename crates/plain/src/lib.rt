@@ -1,0 +1,3 @@
+// Plain values: a step for each instruction, and the walk over a checked formula.
+pub mod steps;
+pub mod walking;

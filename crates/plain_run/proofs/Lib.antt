@@ -1,0 +1,2 @@
+-- The laws of the plain run.
+pub mod Copying

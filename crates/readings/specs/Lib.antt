@@ -1,2 +1,0 @@
--- Which readings are within their limits.
-pub mod Readings

@@ -1,0 +1,3 @@
+-- The laws of answers and of what replies say.
+pub mod Answers
+pub mod OneReply

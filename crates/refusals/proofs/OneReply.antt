@@ -1,0 +1,61 @@
+-- A number stands for one refusal alone, and what is said for one reply: a contract that fixes the one fixes the other. Assumes nothing.
+use mathlib.Core.Path.{_≡_, refl, sym, _∙_, ap, ap₂}
+use mathlib.Core.List.{List, [], _∷_}
+use Prim.Native.Nat.{ℕ}
+use native.Mathlib.Omega.{arith}
+use lib.ListN.{getD}
+use Rattle.refusals.specs.declared.Refusal.{Refusal}
+use Rattle.refusals.specs.declared.Refusal.the-variants.{Ended, Version, Scale, Count, Code, Operand, Constant, Padding, Readings, NoRoom, OutOfReach, AnotherForm}
+use Rattle.refusals.specs.declared.Reply.{Reply}
+use Rattle.refusals.specs.declared.Reply.the-variants.{Done, Refused}
+use Rattle.refusals.specs.Refusals.{refusal-number}
+use Rattle.refusals.specs.Answer.{Answer, value, refused, refuse}
+use Rattle.refusals.specs.Said.{Said, answered, refuses, reply-said}
+
+-- place n has the refusal of number n; no refusal has number 0
+abbrev in-order : List Refusal
+in-order =
+    Ended ∷ Ended ∷ Version ∷ Scale ∷ Count ∷ Code ∷ Operand ∷ Constant ∷ Padding ∷ Readings ∷ NoRoom ∷ OutOfReach ∷ AnotherForm ∷ []
+
+number-back : (r : Refusal) → getD in-order (refusal-number r) Ended ≡ r
+number-back Ended = refl
+number-back Version = refl
+number-back Scale = refl
+number-back Count = refl
+number-back Code = refl
+number-back Operand = refl
+number-back Constant = refl
+number-back Padding = refl
+number-back Readings = refl
+number-back NoRoom = refl
+number-back OutOfReach = refl
+number-back AnotherForm = refl
+
+pub same-number : (q r : Refusal) → refusal-number q ≡ refusal-number r → q ≡ r
+same-number q r e = sym (number-back q) ∙ ap (λ (n : ℕ). getD in-order n Ended) e ∙ number-back r
+
+-- answers that refuse alike refuse for one reason
+abbrev number-in : {A : Type 0} → Answer A → ℕ
+number-in (value a) = 0
+number-in (refused n) = n
+
+pub one-refusal : {A : Type 0} {q r : Refusal} → _≡_ {A = Answer A} (refuse q) (refuse r) → q ≡ r
+one-refusal {q = q} {r = r} e = same-number q r (ap number-in e)
+
+-- what is said: how many outputs or which number, and the place
+abbrev first-said : Said → ℕ
+first-said (answered n) = n
+first-said (refuses n k) = n
+
+abbrev place-said : Said → ℕ
+place-said (answered n) = 0
+place-said (refuses n k) = k
+
+pub never-both : {n m k : ℕ} → answered n ≡ refuses m k → ⊥
+never-both e = let z : _≡_ {A = ℕ} 0 1 = cc in omega arith
+
+pub one-reply : (r t : Reply) → reply-said r ≡ reply-said t → r ≡ t
+one-reply (Done m) (Done n) e = ap Done (ap first-said e)
+one-reply (Done m) (Refused r k) e = absurd (never-both e)
+one-reply (Refused q j) (Done n) e = absurd (never-both (sym e))
+one-reply (Refused q j) (Refused r k) e = ap₂ Refused (same-number q r (ap first-said e)) (ap place-said e)

@@ -1,0 +1,46 @@
+// Why a caller gets no answer, and how a job ended. A later refusal is one line in each of `Refusal`, `number_of` and
+// specs/Refusals.
+ghost use mathlib.Core.Path.{_≡_};
+ghost use Rattle.refusals.specs.Refusals.{refusal-number};
+
+// In the order of the paper's numbers.
+pub enum Refusal {
+    Ended,
+    Version,
+    Scale,
+    Count,
+    Code,
+    Operand,
+    Constant,
+    Padding,
+    Readings,
+    NoRoom,
+    OutOfReach,
+    AnotherForm,
+}
+
+// How many outputs were written, or why none was and at which place.
+pub enum Reply {
+    Done(usize),
+    Refused(Refusal, usize),
+}
+
+// The paper's number.
+pub fn number_of(r: Refusal) -> u32
+    ensures { λ n. ⌜ n ≡ refusal-number r ⌝ }
+{
+    match r {
+        Refusal::Ended => 1,
+        Refusal::Version => 2,
+        Refusal::Scale => 3,
+        Refusal::Count => 4,
+        Refusal::Code => 5,
+        Refusal::Operand => 6,
+        Refusal::Constant => 7,
+        Refusal::Padding => 8,
+        Refusal::Readings => 9,
+        Refusal::NoRoom => 10,
+        Refusal::OutOfReach => 11,
+        Refusal::AnotherForm => 12,
+    }
+}

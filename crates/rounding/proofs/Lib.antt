@@ -1,0 +1,4 @@
+-- What the proofs of several steps share.
+pub mod Units
+pub mod Linear
+pub mod Products

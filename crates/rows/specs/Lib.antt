@@ -1,0 +1,2 @@
+-- The reading lines that the program `margins` reads.
+pub mod Rows

@@ -1,0 +1,3 @@
+// Reading lines: decimal numbers with one space between, a line each.
+pub mod column;
+pub mod row;

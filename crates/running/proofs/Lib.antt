@@ -1,0 +1,3 @@
+-- The laws of the three runs.
+pub mod Readiness
+pub mod Running

@@ -1,0 +1,2 @@
+-- When a run is ready for its first step.
+pub mod Ready

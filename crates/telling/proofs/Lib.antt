@@ -1,0 +1,3 @@
+-- The laws of what is told of a job.
+pub mod Headline
+pub mod Told

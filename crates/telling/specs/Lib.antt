@@ -1,0 +1,2 @@
+-- What the program `margins` prints of a job.
+pub mod Telling

@@ -1,0 +1,72 @@
+-- One instruction on the values that its operands name: which values those are, and what the rule makes of them. Assumes nothing.
+use mathlib.Core.Path.{_≡_, sym, _∙_, ap, ap₂, subst}
+use Prim.Native.Nat.{ℕ, _^_, _≤_, _<_}
+use native.Mathlib.Omega.{arith}
+use lib.IntN.{ℤ}
+use Rattle.whole.proofs.Machine.{back, back-is}
+use Rattle.refusals.specs.Answer.{Answer}
+use Rattle.rules.specs.Numbers.{M}
+use Rattle.rules.specs.Values.{Allowed}
+use Rattle.rules.specs.Steps.{AtEveryScale}
+use Rattle.rules.specs.Operation.{constant, negate, add, subtract, multiply}
+use Rattle.formulas.specs.declared.Instruction.{Instruction}
+use Rattle.formulas.specs.declared.Instruction.the-variants.{Constant, Negate, Add, Subtract, Multiply}
+use Rattle.formulas.specs.Formula.{Smaller}
+use Rattle.formulas.specs.Run.{with-values}
+use Rattle.formulas.specs.Kinds.{Kind}
+use Rattle.walks.specs.Walks.{Named, Operand, Steppable, Stepped}
+
+module _ (K : Kind) {F made : ℕ} {i : Instruction} {l : K .Lists} (p : Steppable K F i made l) where
+  smaller-as : {j : Instruction} → i ≡ j → Smaller made j
+  smaller-as e = subst (Smaller made) e (p .smaller)
+
+  pub constant-allowed : {c : ℤ} → i ≡ Constant c → Allowed c
+  constant-allowed e = smaller-as e
+
+  pub negate-named : {a : ℕ} → i ≡ Negate a → Named K made a l
+  negate-named e = record { below = smaller-as e; room = p .room; legal = p .legal }
+
+  pub add-first : {a b : ℕ} → i ≡ Add a b → Named K made a l
+  add-first e = record { below = smaller-as e .0; room = p .room; legal = p .legal }
+
+  pub add-second : {a b : ℕ} → i ≡ Add a b → Named K made b l
+  add-second e = record { below = smaller-as e .1; room = p .room; legal = p .legal }
+
+  pub subtract-first : {a b : ℕ} → i ≡ Subtract a b → Named K made a l
+  subtract-first e = record { below = smaller-as e .0; room = p .room; legal = p .legal }
+
+  pub subtract-second : {a b : ℕ} → i ≡ Subtract a b → Named K made b l
+  subtract-second e = record { below = smaller-as e .1; room = p .room; legal = p .legal }
+
+  pub multiply-first : {a b : ℕ} → i ≡ Multiply a b → Named K made a l
+  multiply-first e = record { below = smaller-as e .0; room = p .room; legal = p .legal }
+
+  pub multiply-second : {a b : ℕ} → i ≡ Multiply a b → Named K made b l
+  multiply-second e = record { below = smaller-as e .1; room = p .room; legal = p .legal }
+
+-- the rule on the named values is the rule on the instruction with its values
+module _ (K : Kind) {F made : ℕ} {i : Instruction} {l : K .Lists} {got : Answer (K .Value)} where
+  did : {j : Instruction} → i ≡ j → got ≡ K .rule F (with-values (K .nothing) (K .front made l) j) → Stepped K F i made l got
+  did e g = record { by-rule = g ∙ ap (λ (k : Instruction). K .rule F (with-values (K .nothing) (K .front made l) k)) (sym e) }
+
+  -- a constant as the code reads it is the constant
+  pub did-constant : {c : ℤ} → Steppable K F i made l → i ≡ Constant c → AtEveryScale (K .rule) (constant (back c)) got → Stepped K F i made l got
+  did-constant {c} p e g = did e (g .every F ∙ ap (λ (z : ℤ). K .rule F (constant z)) (back-is c (small (constant-allowed K p e))))
+    where
+      small : {n : ℕ} → n ≤ M → n < 2 ^ 63
+      small l = omega arith
+
+  pub did-negate : {a : ℕ} {x : K .Value} → i ≡ Negate a → Operand K made a l x → AtEveryScale (K .rule) (negate x) got → Stepped K F i made l got
+  did-negate e p g = did e (g .every F ∙ ap (λ (z : K .Value). K .rule F (negate z)) (p .is))
+
+  pub did-add : {a b : ℕ} {x y : K .Value} → i ≡ Add a b → Operand K made a l x → Operand K made b l y → AtEveryScale (K .rule) (add x y) got
+      → Stepped K F i made l got
+  did-add e p q g = did e (g .every F ∙ ap₂ (λ (y z : K .Value). K .rule F (add y z)) (p .is) (q .is))
+
+  pub did-subtract : {a b : ℕ} {x y : K .Value} → i ≡ Subtract a b → Operand K made a l x → Operand K made b l y
+      → AtEveryScale (K .rule) (subtract x y) got → Stepped K F i made l got
+  did-subtract e p q g = did e (g .every F ∙ ap₂ (λ (y z : K .Value). K .rule F (subtract y z)) (p .is) (q .is))
+
+  pub did-multiply : {a b : ℕ} {x y : K .Value} → i ≡ Multiply a b → Operand K made a l x → Operand K made b l y → got ≡ K .rule F (multiply x y)
+      → Stepped K F i made l got
+  did-multiply e p q g = did e (g ∙ ap₂ (λ (y z : K .Value). K .rule F (multiply y z)) (p .is) (q .is))

@@ -1,0 +1,2 @@
+-- What is printed for the lines of an input.
+pub mod Worded
