@@ -9,7 +9,7 @@ ghost use Rattle.admitting.specs.Copying.{Copyable, CopiesDomain};
 use formulas::Header;
 use lists::copy_numbers;
 use lists::copy_sizes;
-use matryoshki::walking::walk;
+use matryoshka_walk::walk;
 use outputs::pick_triples;
 use refusals::Reply;
 use walks::Walked;
@@ -31,7 +31,8 @@ fn finish(
     ensures { λ r. ⌜ Finishes matryoshka-kind (now (s .entry)) h
         (lent matryoshka-kind
         (matryoshka-lists (now («work_middles» .entry)) (now («work_strays» .entry)) (now («work_margins» .entry)))
-        (matryoshka-lists (now («output_middles» .entry)) (now («output_strays» .entry)) (now («output_margins» .entry))))
+        (matryoshka-lists (now («output_middles» .entry)) (now («output_strays» .entry)) (now («output_margins» .entry)))
+        )
         (lent matryoshka-kind
         (matryoshka-lists (now («work_middles» .exit)) (now («work_strays» .exit)) (now («work_margins» .exit)))
         (matryoshka-lists (now («output_middles» .exit)) (now («output_strays» .exit)) (now («output_margins» .exit))))
@@ -98,7 +99,8 @@ pub fn carry_out(
         (domain (now (middles .entry)) (now (strays .entry)) (now (margins .entry)))
         (lent matryoshka-kind
         (matryoshka-lists (now («work_middles» .entry)) (now («work_strays» .entry)) (now («work_margins» .entry)))
-        (matryoshka-lists (now («output_middles» .entry)) (now («output_strays» .entry)) (now («output_margins» .entry))))
+        (matryoshka-lists (now («output_middles» .entry)) (now («output_strays» .entry)) (now («output_margins» .entry)))
+        )
         (lent matryoshka-kind
         (matryoshka-lists (now («work_middles» .exit)) (now («work_strays» .exit)) (now («work_margins» .exit)))
         (matryoshka-lists (now («output_middles» .exit)) (now («output_strays» .exit)) (now («output_margins» .exit))))

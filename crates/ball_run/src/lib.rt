@@ -6,7 +6,7 @@ ghost use Rattle.formulas.specs.Kinds.{ball-kind};
 ghost use Rattle.formulas.specs.Job.{lent, Kept};
 ghost use Rattle.packed.specs.Meaning.{formula};
 ghost use Rattle.running.specs.Ready.{Ready, Begins, Finishable, Finishes};
-use balls::walking::walk;
+use ball_walk::walk;
 use checking::Checked;
 use checking::checking::check;
 use formulas::Header;

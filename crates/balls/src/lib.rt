@@ -1,3 +1,2 @@
-// Balls: a step for each instruction, and the walk over a checked formula.
+// Balls: a step for each instruction.
 pub mod steps;
-pub mod walking;

@@ -19,10 +19,12 @@ use Rattle.packed.specs.Items.{Form, done, read, _>>=_}
 use Rattle.packed.specs.Format.{header, program, results, is-padding}
 use Rattle.packed.specs.Meaning.{body, if-padded, formula, checked}
 use Rattle.packed.proofs.InTurn.{read-bind}
-use Rattle.checking.specs.declared.Passed.{Passed}
-use Rattle.checking.specs.declared.Passed.the-variants as passed
-use Rattle.checking.specs.CheckAnswers.{passed-answer, place, body-checked, body-answer, header-of}
-use Rattle.checking.specs.CheckAnswers.{WellHeaded, HeaderPassed, PassedOver, BodyPassed}
+use Rattle.heading.specs.declared.Passed.{Passed}
+use Rattle.heading.specs.declared.Passed.the-variants as passed
+use Rattle.heading.specs.HeaderAnswers.{header-of}
+use Rattle.checking.specs.CheckAnswers.{passed-answer, place, body-checked, body-answer}
+use Rattle.heading.specs.HeaderAnswers.{WellHeaded, HeaderPassed}
+use Rattle.checking.specs.CheckAnswers.{PassedOver, BodyPassed}
 
 module _ (h : Header) where
   abbrev the-program : Form (List Instruction)

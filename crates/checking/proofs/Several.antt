@@ -22,7 +22,7 @@ use Rattle.packed.specs.Format.{several}
 use Rattle.packed.specs.ReaderAnswers.{instruction-answer, Instructed}
 use Rattle.packed.proofs.FieldIn.{test-cut, test-failed, test-passed, above-out, between}
 use Rattle.packed.proofs.InTurn.{read-bind, read-item}
-use Rattle.checking.specs.declared.Passed.the-variants.{At, Refused}
+use Rattle.heading.specs.declared.Passed.the-variants.{At, Refused}
 use Rattle.checking.specs.CheckAnswers.{place, PassedOver}
 
 -- ---- one reading

@@ -2,20 +2,16 @@
 use mathlib.Core.Path.{_≡_}
 use mathlib.Core.List.{List}
 use Prim.Native.Nat.{ℕ, _+_, _≤_}
-use Rattle.refusals.specs.declared.Refusal.{Refusal}
 use Rattle.refusals.specs.Answer.{Answer, value, refused, refuse, then}
 use Rattle.bits.specs.declared.Cursor.{Cursor}
-use Rattle.bits.specs.Bits.{bits}
 use Rattle.bits.specs.Reader.{Read}
 use Rattle.bits.specs.Fields.{before}
 use Rattle.formulas.specs.declared.Header.{Header}
-use Rattle.formulas.specs.Formula.{InLimits}
 use Rattle.packed.specs.Items.{Form, read}
 use Rattle.packed.specs.Format.{header}
-use Rattle.packed.specs.ReaderAnswers.{field-at}
 use Rattle.packed.specs.Meaning.{body, if-padded}
-use Rattle.checking.specs.declared.Passed.{Passed}
-use Rattle.checking.specs.declared.Passed.the-variants as passed
+use Rattle.heading.specs.declared.Passed.{Passed}
+use Rattle.heading.specs.declared.Passed.the-variants as passed
 use Rattle.checking.specs.declared.Checked.{Checked}
 use Rattle.checking.specs.declared.Checked.the-variants as checked
 
@@ -28,31 +24,6 @@ passed-answer s (passed.Refused r) = refuse r
 abbrev pub check-answer : Checked → Answer Header
 check-answer (checked.Formula h) = value h
 check-answer (checked.Refused r) = refuse r
-
--- ---- the header
-
--- a header's limits, and where the cursor stands after it
-pub record WellHeaded (h : Header) (c : Cursor) : Type 0 where
-  pub limits : InLimits h
-  pub past : c .at ≡ 32
-
--- the header that 64 bits begin with
-abbrev pub header-of : ℕ → Header
-header-of x = record { scale = field-at x 7 5; inputs = field-at x 12 5; instructions = field-at x 17 10; outputs = field-at x 27 5 }
-
-pub record HeaderRefused (s : List ℕ) (r : Refusal) : Type 0 where
-  pub is : read header (bits s) ≡ refuse r
-
-pub record HeaderWhole (s : List ℕ) (x : ℕ) (c : Cursor) : Type 0 where
-  pub is : read header (bits s) ≡ value (record { got = header-of x; left = before s c })
-  pub well : WellHeaded (header-of x) c
-
--- what passing the header gave, where x is ahead of the first bit
-abbrev pub HeaderPassed : List ℕ → ℕ → Passed → Type 0
-HeaderPassed s x (passed.At c) = HeaderWhole s x c
-HeaderPassed s x (passed.Refused r) = HeaderRefused s r
-
--- ---- what follows it
 
 -- what was read is forgotten, and the bits that are left are kept
 abbrev pub place : {A : Type 0} → Answer (Read A) → Answer (List ℕ)

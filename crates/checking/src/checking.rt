@@ -1,13 +1,13 @@
 // The check job: whether bytes are a formula.
 ghost use mathlib.Core.Path.{_≡_};
 ghost use Rattle.packed.specs.Meaning.{checked};
-ghost use Rattle.checking.specs.CheckAnswers.{check-answer, BodyPassed, WellHeaded};
+ghost use Rattle.heading.specs.HeaderAnswers.{WellHeaded};
+ghost use Rattle.checking.specs.CheckAnswers.{check-answer, BodyPassed};
 use crate::Checked;
-use crate::Passed;
-use crate::heading;
 use crate::passing;
 use bits::Cursor;
 use formulas::Header;
+use heading::Passed;
 use refusals::Refusal;
 
 // All that follows a header, to the last bit.

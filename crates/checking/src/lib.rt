@@ -3,13 +3,7 @@ use formulas::Header;
 use refusals::Refusal;
 
 pub mod checking;
-pub mod heading;
 pub mod passing;
-
-pub enum Passed {
-    At(bits::Cursor),
-    Refused(Refusal),
-}
 
 pub enum Checked {
     Formula(Header),

@@ -53,7 +53,8 @@ fn add(l: Columns, x: MarginsBall) -> Columns
     r
 }
 
-// The borrow checker covers no slice of structs: this loop and the door over records are proved by a walk, and all else stands in functions that it covers.
+// The borrow checker covers no slice of structs: this loop and the door over records are proved by a walk,
+// and all else stands in functions that it covers.
 pub fn columns_of(readings: &[MarginsBall]) -> Columns
     ensures { λ l. ⌜ Columned l (take 17 (now (readings .entry))) ⌝ }
 {

@@ -1,12 +1,12 @@
 // The check job for C.
 ghost use mathlib.Core.Path.{_≡_};
 ghost use Rattle.packed.specs.Meaning.{checked};
-ghost use Rattle.doors.specs.Doors.{margins-formula};
-use crate::MarginsFormula;
-use crate::reply::headed;
+ghost use Rattle.replies.specs.Doors.{margins-formula};
 use checking::Checked;
 use checking::checking::check;
 use refusals::number_of;
+use replies::MarginsFormula;
+use replies::headed;
 
 #[no_mangle]
 pub extern "C" fn margins_check(bytes: &[u8]) -> MarginsFormula

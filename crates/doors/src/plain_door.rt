@@ -2,9 +2,9 @@
 ghost use Rattle.formulas.specs.Kinds.{plain-kind};
 ghost use Rattle.formulas.specs.Job.{lent};
 ghost use Rattle.packed.specs.Meaning.{formula};
-ghost use Rattle.doors.specs.Doors.{Door};
-use crate::MarginsReply;
-use crate::reply::replied;
+ghost use Rattle.replies.specs.Doors.{Door};
+use replies::MarginsReply;
+use replies::replied;
 
 #[no_mangle]
 pub extern "C" fn margins_plain(

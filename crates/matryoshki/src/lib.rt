@@ -1,3 +1,2 @@
-// Matryoshki: a step for each instruction, and the walk over a checked formula.
+// Matryoshki: a step for each instruction.
 pub mod steps;
-pub mod walking;

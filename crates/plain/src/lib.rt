@@ -1,3 +1,2 @@
-// Plain values: a step for each instruction, and the walk over a checked formula.
+// Plain values: a step for each instruction.
 pub mod steps;
-pub mod walking;

@@ -8,7 +8,7 @@ use checking::checking::check;
 use formulas::Header;
 use lists::copy_numbers;
 use outputs::pick_numbers;
-use plain::walking::walk;
+use plain_walk::walk;
 use readings::plain_readings;
 use refusals::Reply;
 use running::tested;

@@ -1,7 +1,7 @@
 -- `margins_admit` meets its contract. Assumes nothing.
 use borrow.Author.Needs.{needs}
 use Rattle.formulas.specs.Kinds.{matryoshka-kind}
-use Rattle.doors.proofs.Telling.{kept-few, kept-door}
+use Rattle.replies.proofs.Telling.{kept-few, kept-door}
 use Rattle.doors.proofs.admit_door.margins_admit.Statement.{statement}
 use Rattle.doors.proofs.admit_door.margins_admit.Tie as tie
 

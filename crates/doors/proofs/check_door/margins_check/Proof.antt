@@ -1,6 +1,6 @@
 -- `margins_check` meets its contract. Assumes nothing.
 use borrow.Author.Needs.{needs}
-use Rattle.doors.proofs.Telling.{checked-limits, told-formula, told-unread}
+use Rattle.replies.proofs.Telling.{checked-limits, told-formula, told-unread}
 use Rattle.doors.proofs.check_door.margins_check.Statement.{statement}
 use Rattle.doors.proofs.check_door.margins_check.Tie as tie
 

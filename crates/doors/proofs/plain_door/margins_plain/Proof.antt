@@ -1,7 +1,7 @@
 -- `margins_plain` meets its contract. Assumes nothing.
 use borrow.Author.Needs.{needs}
 use Rattle.formulas.specs.Kinds.{plain-kind}
-use Rattle.doors.proofs.Telling.{kept-few, kept-door}
+use Rattle.replies.proofs.Telling.{kept-few, kept-door}
 use Rattle.doors.proofs.plain_door.margins_plain.Statement.{statement}
 use Rattle.doors.proofs.plain_door.margins_plain.Tie as tie
 

@@ -1,0 +1,2 @@
+-- The door over records rests on the door over columns.
+mod Copied

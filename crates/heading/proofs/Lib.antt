@@ -1,0 +1,2 @@
+-- The laws of passing the header.
+pub mod Headings

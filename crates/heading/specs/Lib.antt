@@ -1,0 +1,2 @@
+-- What passing the header gives.
+pub mod HeaderAnswers

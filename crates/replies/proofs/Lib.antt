@@ -1,0 +1,3 @@
+-- From a job's reply to what C is told, and what that fixes.
+pub mod Telling
+pub mod OneDoor

@@ -1,0 +1,72 @@
+-- From a job's reply to what C is told: an answer names at most 16 outputs, and the door leaves what the job leaves. Assumes nothing.
+use mathlib.Core.Path.{_≡_, refl, sym, _∙_, ap, subst}
+use mathlib.Core.List.{List}
+use Prim.Native.Nat.{ℕ, _≤_}
+use native.Mathlib.Omega.{arith}
+use lib.ListN.{length, getD, length-map}
+use Rattle.whole.proofs.Cases.{by-case}
+use Rattle.refusals.specs.declared.Refusal.{Refusal}
+use Rattle.refusals.specs.declared.Reply.{Reply}
+use Rattle.refusals.specs.declared.Reply.the-variants.{Done, Refused}
+use Rattle.refusals.specs.Refusals.{refusal-number}
+use Rattle.refusals.specs.Answer.{Answer, value, refused}
+use Rattle.refusals.specs.Said.{reply-said}
+use Rattle.formulas.specs.declared.Header.{Header}
+use Rattle.formulas.specs.Formula.{Formula, InLimits}
+use Rattle.formulas.specs.Run.{Walk, finished, stopped}
+use Rattle.formulas.specs.Kinds.{Kind}
+use Rattle.formulas.specs.Job.{Started, start, walk-ended, started-run, job, said, Lent, Kept}
+use Rattle.formulas.proofs.Jobs.{starts, job-refused, job-started}
+use Rattle.packed.specs.Meaning.{formula, checked}
+use Rattle.packed.proofs.WellFormed.{accepted-well-formed}
+use Rattle.packed.proofs.Formed.{formed, limits-of}
+use Rattle.checking.specs.declared.Checked.{Checked}
+use Rattle.checking.specs.declared.Checked.the-variants as checked
+use Rattle.checking.specs.CheckAnswers.{check-answer}
+use Rattle.replies.specs.declared.MarginsReply.{MarginsReply}
+use Rattle.replies.specs.declared.MarginsFormula.{MarginsFormula}
+use Rattle.replies.specs.Doors.{margins-reply, margins-formula, outputs-told, Door}
+
+job-few : (K : Kind) (s : List ℕ) (given : K .Readings) (work output : ℕ) → outputs-told (said (job K (formula s) given work output)) ≤ 16
+job-few K s given work output = by-start (start K (formula s) given work output) refl
+  where
+    by-walk : (f : Formula) → length (f .results) ≤ 16 → (w : Walk (K .Value)) → outputs-told (said (walk-ended (K .nothing) f w)) ≤ 16
+    by-walk f l (finished vs) = subst (λ (n : ℕ). n ≤ 16) (sym (length-map (f .results) (λ o. getD vs o (K .nothing)))) l
+    by-walk f l (stopped n vs) = omega arith
+
+    by-start : (a : Answer (Started K)) → start K (formula s) given work output ≡ a → outputs-told (said (job K (formula s) given work output)) ≤ 16
+    by-start (refused n) e = subst (λ j. outputs-told (said j) ≤ 16) (sym (job-refused K (formula s) given work output e)) (omega arith)
+    by-start (value st) e =
+        let w = accepted-well-formed s (starts K (formula s) given work output e .means) in
+        subst (λ j. outputs-told (said j) ≤ 16) (sym (job-started K (formula s) given work output e))
+        (by-walk (st .formula) (omega (arith, w .results-long, w .limits .outputs-few)) (started-run K st))
+
+module _ (K : Kind) (s : List ℕ) {given : K .Readings} {old new : Lent K} {q : Reply} (k : Kept K (formula s) given old new q) where
+  pub kept-few : outputs-told (reply-said q) ≤ 16
+  kept-few =
+      subst (λ t. outputs-told t ≤ 16) (sym (k .says)) (job-few K s given (K .room (old .work)) (K .room (old .output)))
+
+  pub kept-door : {r : MarginsReply} → r ≡ margins-reply (reply-said q) → Door K (formula s) given old new r
+  kept-door e = record { tells = e ∙ ap margins-reply (k .says); works = k .works; gives = k .gives }
+
+-- a reply, case by case
+pub done-few : (q : Reply) {n : ℕ} → outputs-told (reply-said q) ≤ 16 → q ≡ Done n → n ≤ 16
+done-few q l e = subst (λ t. outputs-told (reply-said t) ≤ 16) e l
+
+pub told-done : {q : Reply} {n : ℕ} → q ≡ Done n → record { refusal = 0; outputs = n; place = 0 } ≡ margins-reply (reply-said q)
+told-done e = sym (ap (λ t. margins-reply (reply-said t)) e)
+
+pub told-refused : {q : Reply} {why : Refusal} {n k : ℕ} {r : MarginsReply} → r ≡ record { refusal = n; outputs = 0; place = k }
+    → n ≡ refusal-number why → q ≡ Refused why k → r ≡ margins-reply (reply-said q)
+told-refused {k = k} e m t = e ∙ ap (λ (n : ℕ). record { refusal = n; outputs = 0; place = k }) m ∙ sym (ap (λ t. margins-reply (reply-said t)) t)
+
+-- a header, or the refusal
+module _ (c : Checked) (s : List ℕ) (checks : check-answer c ≡ checked s) where
+  pub checked-limits : {h : Header} → c ≡ checked.Formula h → InLimits h
+  checked-limits t = limits-of (formed s (by-case check-answer checks t))
+
+  pub told-formula : {h : Header} {r : MarginsFormula} → r ≡ margins-formula (value h) → c ≡ checked.Formula h → r ≡ margins-formula (checked s)
+  told-formula e t = e ∙ sym (ap margins-formula (by-case check-answer checks t))
+
+  pub told-unread : {q : Refusal} {n : ℕ} → n ≡ refusal-number q → c ≡ checked.Refused q → margins-formula (refused n) ≡ margins-formula (checked s)
+  told-unread e t = ap (λ (n : ℕ). margins-formula (refused n)) e ∙ sym (ap margins-formula (by-case check-answer checks t))
