@@ -5,12 +5,10 @@ ghost use Rattle.formulas.specs.Kinds.{matryoshka-kind};
 ghost use Rattle.formulas.specs.Job.{lent, Kept};
 ghost use Rattle.packed.specs.Meaning.{formula};
 ghost use Rattle.running.specs.Ready.{Begins, Finishable, Finishes};
-ghost use Rattle.admitting.specs.Copying.{Copyable, CopiesDomain};
 use formulas::Header;
-use lists::copy_numbers;
-use lists::copy_sizes;
 use matryoshka_walk::walk;
 use outputs::pick_triples;
+use readings::copy_domain;
 use refusals::Reply;
 use walks::Walked;
 
@@ -55,26 +53,6 @@ fn finish(
             Reply::Done(h.outputs)
         }
     }
-}
-
-// The domain, to the front of the work lists.
-fn copy_domain(
-    middles: &[i64],
-    strays: &[i64],
-    margins: &[i64],
-    work_middles: &mut [i64],
-    work_strays: &mut [u64],
-    work_margins: &mut [u64],
-)
-    requires { ⌜ Copyable (domain (now middles) (now strays) (now margins))
-        (matryoshka-lists (now «work_middles») (now «work_strays») (now «work_margins»)) ⌝ }
-    ensures { λ r. ⌜ CopiesDomain (domain (now (middles .entry)) (now (strays .entry)) (now (margins .entry)))
-        (matryoshka-lists (now («work_middles» .entry)) (now («work_strays» .entry)) (now («work_margins» .entry)))
-        (matryoshka-lists (now («work_middles» .exit)) (now («work_strays» .exit)) (now («work_margins» .exit))) ⌝ }
-{
-    copy_numbers(middles, work_middles);
-    copy_sizes(strays, work_strays);
-    copy_sizes(margins, work_margins);
 }
 
 // The formula on a domain that fits, in memory that is enough.

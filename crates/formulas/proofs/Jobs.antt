@@ -5,16 +5,15 @@ use mathlib.Core.List.{List, [], map}
 use Prim.Native.Nat.{ℕ, _-_, _≤_}
 use borrow.Author.Tests.{leb-true, le-leb}
 use lib.Dec.{leb}
-use lib.ListN.{length, getD, length-map}
+use lib.ListN.{getD}
 use Rattle.whole.proofs.Cases.{both}
 use Rattle.refusals.specs.declared.Refusal.{Refusal}
 use Rattle.refusals.specs.declared.Reply.{Reply}
-use Rattle.refusals.specs.declared.Reply.the-variants.{Done, Refused}
-use Rattle.refusals.specs.Refusals.{refusal-number}
+use Rattle.refusals.specs.declared.Reply.the-variants.{Refused}
 use Rattle.refusals.specs.Answer.{Answer, value, refused, refuse, then}
-use Rattle.refusals.specs.Said.{Said, answered, refuses, reply-said}
+use Rattle.refusals.specs.Said.{answered, refuses, reply-said}
 use Rattle.refusals.proofs.Answers.{no-value, same-value, first-of, then-value}
-use Rattle.refusals.proofs.OneReply.{never-both, one-reply}
+use Rattle.refusals.proofs.OneReply.{never-both, one-reply, first-said, place-said}
 use Rattle.formulas.specs.Formula.{Formula, places}
 use Rattle.formulas.specs.Run.{Walk, finished, stopped, made-by, walk-end}
 use Rattle.formulas.specs.Kinds.{Kind}
@@ -29,8 +28,8 @@ pub record Starts (K : Kind) (a : Answer Formula) (given : K .Readings) (work ou
   pub output-room : st .formula .header .outputs ≤ output
 
 module _ (K : Kind) (a : Answer Formula) (given : K .Readings) (work output : ℕ) where
-  roomy : {A : Type 0} (h n : ℕ) (x : A) {y : A} → if-room (leb h work && leb n output) x ≡ value y → (h ≤ work) × (n ≤ output) × (x ≡ y)
-  roomy h n x {y} e = by-test (leb h work && leb n output) refl e
+  enough-room : {A : Type 0} (h n : ℕ) (x : A) {y : A} → if-room (leb h work && leb n output) x ≡ value y → (h ≤ work) × (n ≤ output) × (x ≡ y)
+  enough-room h n x {y} e = by-test (leb h work && leb n output) refl e
     where
       by-test : (t : Bool) → (leb h work && leb n output) ≡ t → if-room t x ≡ value y → (h ≤ work) × (n ≤ output) × (x ≡ y)
       by-test true u e = let b = both (leb h work) (leb n output) u in (leb-true h work (b .0), leb-true n output (b .1), same-value e)
@@ -41,7 +40,7 @@ module _ (K : Kind) (a : Answer Formula) (given : K .Readings) (work output : �
   starts {st} e =
       let b = first-of a (λ f. then (K .tested (f .header .inputs) given) (λ vs. room f vs)) e in
       let c = first-of (K .tested (b .first .header .inputs) given) (λ vs. room (b .first) vs) (b .then-was) in
-      let r = roomy (places (b .first .header)) (b .first .header .outputs) (record { formula = b .first; values = c .first }) (c .then-was) in
+      let r = enough-room (places (b .first .header)) (b .first .header .outputs) (record { formula = b .first; values = c .first }) (c .then-was) in
       subst (Starts K a given work output) (r .2) (record { means = b .was; fits = c .was; work-room = r .0; output-room = r .1 })
     where
       room : Formula → List (K .Value) → Answer (Started K)
@@ -67,15 +66,7 @@ module _ (K : Kind) (a : Answer Formula) (given : K .Readings) (work output : �
 module _ {A : Type 0} (d : A) (f : Formula) where
   pub ends-stopped : (w : Walk A) {n k : ℕ} → refuses n k ≡ walk-end (f .header .inputs) w → walk-ended d f w ≡ stopped-at k n (made-by w)
   ends-stopped (finished vs) e = absurd (never-both (sym e))
-  ends-stopped (stopped m vs) e = ap₂ (λ k n. stopped-at k n vs) (sym (ap place e)) (sym (ap number e))
-    where
-      place : Said → ℕ
-      place (answered n) = 0
-      place (refuses n k) = k
-
-      number : Said → ℕ
-      number (answered n) = 0
-      number (refuses n k) = n
+  ends-stopped (stopped m vs) e = ap₂ (λ k n. stopped-at k n vs) (sym (ap place-said e)) (sym (ap first-said e))
 
   pub ends-done : (w : Walk A) {n : ℕ} → answered n ≡ walk-end (f .header .inputs) w
       → (walk-ended d f w ≡ done (made-by w) (map (λ o. getD (made-by w) o d) (f .results))) × (w ≡ finished (made-by w))
@@ -97,20 +88,6 @@ module _ {K : Kind} (law : Lawful K) {a : Answer Formula} {given : K .Readings} 
   kept-refused {q} e =
       kept-as (Refused q 0) (job-refused K a given (K .room (old .work)) (K .room (old .output)) e) refl
       (law .holds-none (old .work)) (law .holds-none (old .output))
-
-  module _ {st : Started K} (e : lent-start K a given old ≡ value st) where
-    pub kept-stopped : {q : Refusal} {k : ℕ} {work : K .Lists} → refuses (refusal-number q) k ≡ walk-end (st .formula .header .inputs) (started-run K st)
-        → K .Holds (made-by (started-run K st)) (old .work) work → Kept K a given old (record { work = work; output = old .output }) (Refused q k)
-    kept-stopped {q} {k} s w =
-        kept-as (Refused q k) (job-started K a given (K .room (old .work)) (K .room (old .output)) e ∙ ends-stopped (K .nothing) (st .formula) (started-run K st) s) refl w (law .holds-none (old .output))
-
-    pub kept-done : {n m : ℕ} {work output : K .Lists} → answered m ≡ walk-end (st .formula .header .inputs) (started-run K st)
-        → K .Holds (made-by (started-run K st)) (old .work) work
-        → K .Holds (map (λ o. getD (made-by (started-run K st)) o (K .nothing)) (st .formula .results)) (old .output) output
-        → length (st .formula .results) ≡ n → Kept K a given old (record { work = work; output = output }) (Done n)
-    kept-done {n} s w o l =
-        kept-as (Done n) (job-started K a given (K .room (old .work)) (K .room (old .output)) e ∙ ends-done (K .nothing) (st .formula) (started-run K st) s .0)
-        (ap answered (sym (length-map (st .formula .results) (λ o. getD (made-by (started-run K st)) o (K .nothing)) ∙ l))) w o
 
 -- two outcomes that a job's contract allows are equal: the reply, and every place of every lent list
 pub job-one-outcome : {K : Kind} → Lawful K → {a : Answer Formula} {given : K .Readings} {old : Lent K} (new₁ new₂ : Lent K) (r t : Reply)

@@ -13,11 +13,9 @@ use mir.Syntax.{w64}
 use mir.Val.{hbits}
 use mir.ValLaws.{toZ-ofZ}
 use Rattle.whole.proofs.Machine.{back}
-use Rattle.whole.proofs.Cases.{ap₃}
-use Rattle.rules.specs.declared.Ball.{Ball}
 use Rattle.rules.specs.declared.Matryoshka.{Matryoshka}
 use Rattle.rules.specs.Matryoshki.{matryoshka}
-use Rattle.rules.specs.Lists.{balls, centres-of, margins-of, matryoshki, middles-of, strays-of, static-margins-of}
+use Rattle.rules.specs.Lists.{balls, matryoshki}
 use Rattle.printing.specs.Decimal.{digits-of, decimal, signed-decimal}
 use Rattle.printing.specs.Written.{Wrote}
 use Rattle.printing.proofs.Again.{wrote-long, wrote-then, wrote-same, wrote-nothing}
@@ -153,30 +151,6 @@ module _ (cs : List ℤ) (ss ms : List ℕ) (n : ℕ) {old now : List ℕ} {at r
       → Wrote (listed matryoshka-fields 0 (matryoshki (take n cs) (take n ss) (take n ms))) at old now r
   unfolding shown field-if
   matryoshki-told w = w
-
--- the lines of values that the lists hold in parts
-balls-back : (vs : List Ball) → balls (centres-of vs) (margins-of vs) ≡ vs
-balls-back [] = refl
-balls-back (v ∷ vs) = ap (λ l. v ∷ l) (balls-back vs)
-
-matryoshki-back : (vs : List Matryoshka) → matryoshki (middles-of vs) (strays-of vs) (static-margins-of vs) ≡ vs
-matryoshki-back [] = refl
-matryoshki-back (v ∷ vs) = ap (λ l. v ∷ l) (matryoshki-back vs)
-
-module _ {old now : List ℕ} {at r : ℕ} where
-  pub wrote-plain : {xs : List ℤ} (vs : List ℤ) → xs ≡ vs → Wrote (listed plain-fields 0 xs) at old now r
-      → Wrote (listed plain-fields 0 vs) at old now r
-  wrote-plain vs e w = wrote-same (ap (listed plain-fields 0) e) w
-
-  pub wrote-balls : {cs : List ℤ} {ms : List ℕ} (vs : List Ball) → cs ≡ centres-of vs → ms ≡ margins-of vs
-      → Wrote (listed ball-fields 0 (balls cs ms)) at old now r → Wrote (listed ball-fields 0 vs) at old now r
-  wrote-balls vs d e w = wrote-same (ap (listed ball-fields 0) (ap₂ balls d e ∙ balls-back vs)) w
-
-  pub wrote-matryoshki : {cs : List ℤ} {ss ms : List ℕ} (vs : List Matryoshka) → cs ≡ middles-of vs → ss ≡ strays-of vs
-      → ms ≡ static-margins-of vs → Wrote (listed matryoshka-fields 0 (matryoshki cs ss ms)) at old now r
-      → Wrote (listed matryoshka-fields 0 vs) at old now r
-  wrote-matryoshki vs d e f w =
-      wrote-same (ap (listed matryoshka-fields 0) (ap₃ matryoshki d e f ∙ matryoshki-back vs)) w
 
 -- the document's example, "y0 9 9 4" and LF
 pub example : listed matryoshka-fields 0 (matryoshka (pos 9) 9 4 ∷ [])

@@ -42,11 +42,6 @@ over-front a old {n} e = take-at a (drop (length a) old) n e
 pub over-long : {A : Type 0} (a old : List A) → length a ≤ length old → length (over a old) ≡ length old
 over-long a old l = length-append a (drop (length a) old) ∙ omega (arith, length-drop (length a) old)
 
--- what was written to the front of a list that kept its length is no longer than the list
-pub over-fits : {A : Type 0} (front old : List A) {now : List A} → now ≡ over front old → length now ≡ length old → length front ≤ length old
-over-fits front old e l =
-    omega (arith, ap length e ∙ length-append front (drop (length front) old), length-drop (length front) old, l)
-
 -- so many places in the one with fewer are so many in both
 pub least-both : (n a b : ℕ) → n ≤ least a b → (n ≤ a) × (n ≤ b)
 unfolding least

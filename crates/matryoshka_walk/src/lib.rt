@@ -4,13 +4,14 @@ ghost use Rattle.rules.specs.Lists.{matryoshka-lists};
 ghost use Rattle.formulas.specs.Kinds.{matryoshka-kind};
 ghost use Rattle.walks.specs.Walks.{Named, Operand, Steppable, Stepped, Walkable, Walks};
 use bits::Cursor;
+use bits::ahead;
 use formulas::Header;
 use formulas::Instruction;
 use matryoshki::steps;
+use packed::walking::decode_ahead;
 use rules::Matryoshka;
 use rules::MatryoshkaStep;
 use walks::Walked;
-use walks::decode;
 
 // The matryoshka that an operand names, of the first `made`.
 fn value_at(middles: &[i64], strays: &[u64], margins: &[u64], i: usize, made: usize) -> Matryoshka
@@ -80,7 +81,7 @@ pub fn walk(
             break Walked::Finished(at);
         }
         let made = h.inputs + k;
-        let d = decode(s, at);
+        let d = decode_ahead(s, ahead(s, at), at);
         let i = d.instruction;
         let next = d.next;
         match step(h.scale, i, middles, strays, margins, made) {

@@ -1,5 +1,8 @@
-// The readings a caller brings: as many as were asked for, in each list that carries them, and each within its limits.
+// The readings a caller brings: as many as were asked for, in each list that carries them, and each within its limits;
+// a domain, three lists at once, is also copied from here.
 ghost use mathlib.Core.Path.{_≡_};
+ghost use Rattle.rules.specs.Lists.{matryoshka-lists};
+ghost use Rattle.readings.specs.Copying.{Copyable, CopiesDomain};
 ghost use Rattle.formulas.specs.Readings.{
   plain-fits,
   ball-fits,
@@ -10,6 +13,8 @@ ghost use Rattle.formulas.specs.Readings.{
   ball-tested,
   domain-tested,
 };
+use lists::copy_numbers;
+use lists::copy_sizes;
 use whole::magnitude;
 
 // Whether |x| is at most M.
@@ -107,4 +112,24 @@ pub fn admit_readings(middles: &[i64], strays: &[i64], margins: &[i64], m: usize
         i = i + 1;
     }
     true
+}
+
+// The domain, to the front of the work lists.
+pub fn copy_domain(
+    middles: &[i64],
+    strays: &[i64],
+    margins: &[i64],
+    work_middles: &mut [i64],
+    work_strays: &mut [u64],
+    work_margins: &mut [u64],
+)
+    requires { ⌜ Copyable (domain (now middles) (now strays) (now margins))
+        (matryoshka-lists (now «work_middles») (now «work_strays») (now «work_margins»)) ⌝ }
+    ensures { λ r. ⌜ CopiesDomain (domain (now (middles .entry)) (now (strays .entry)) (now (margins .entry)))
+        (matryoshka-lists (now («work_middles» .entry)) (now («work_strays» .entry)) (now («work_margins» .entry)))
+        (matryoshka-lists (now («work_middles» .exit)) (now («work_strays» .exit)) (now («work_margins» .exit))) ⌝ }
+{
+    copy_numbers(middles, work_middles);
+    copy_sizes(strays, work_strays);
+    copy_sizes(margins, work_margins);
 }

@@ -43,11 +43,11 @@ pub one-refusal : {A : Type 0} {q r : Refusal} → _≡_ {A = Answer A} (refuse 
 one-refusal {q = q} {r = r} e = same-number q r (ap number-in e)
 
 -- what is said: how many outputs or which number, and the place
-abbrev first-said : Said → ℕ
+abbrev pub first-said : Said → ℕ
 first-said (answered n) = n
 first-said (refuses n k) = n
 
-abbrev place-said : Said → ℕ
+abbrev pub place-said : Said → ℕ
 place-said (answered n) = 0
 place-said (refuses n k) = k
 

@@ -23,10 +23,10 @@ use Rattle.formulas.specs.Kinds.{Kind}
 use Rattle.formulas.proofs.Lawful.{Lawful}
 use Rattle.packed.specs.Items.{read}
 use Rattle.packed.specs.Format.{results}
-use Rattle.packed.specs.Walk.{Decodes}
+use Rattle.packed.specs.Walk.{Readable, Decodes}
 use Rattle.packed.proofs.Formed.{Formed, formed, limits-of}
 use Rattle.walks.specs.declared.Walked.the-variants.{Finished, Stopped}
-use Rattle.walks.specs.Walks.{Walkable, Decodable, walk-of, Walks, Steppable, Stepped}
+use Rattle.walks.specs.Walks.{Walkable, walk-of, Walks, Steppable, Stepped}
 use Rattle.walks.proofs.Onward.{Onward, onward-start, onward-readable, onward-smaller, onward-more, onward-stops, onward-ends, onward-stands, onward-whole}
 
 -- the instructions follow the header's 32 bits
@@ -127,9 +127,14 @@ module _ {K : Kind} (law : Lawful K) {s : List ℕ} {h : Header} where
       pub walking-less : h .instructions - (k + 1) < h .instructions - k
       walking-less = omega (arith, next)
 
-      pub walking-decodable : Decodable s c
-      walking-decodable =
-          record { near = omega (arith, walking-near); readable = onward-readable (K .rule (h .scale)) (K .nothing) (w .onward) next }
+      pub walking-ahead : c .at ≤ 2 ^ 32
+      walking-ahead = omega (arith, walking-near)
+
+      pub walking-within : c .at ≤ 2 ^ 30
+      walking-within = omega (arith, walking-near)
+
+      pub walking-readable : Readable s c
+      walking-readable = onward-readable (K .rule (h .scale)) (K .nothing) (w .onward) next
 
       module _ {i : Instruction} {e : Cursor} (decodes : Decodes s c i e) where
         pub walking-steps : Steppable K (h .scale) i (h .inputs + k) now

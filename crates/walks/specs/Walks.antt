@@ -20,7 +20,6 @@ use Rattle.formulas.specs.Kinds.{Kind}
 use Rattle.packed.specs.Items.{read}
 use Rattle.packed.specs.Format.{results}
 use Rattle.packed.specs.Meaning.{meant, checked}
-use Rattle.packed.specs.Walk.{Readable}
 use Rattle.walks.specs.declared.Walked.{Walked}
 use Rattle.walks.specs.declared.Walked.the-variants.{Finished, Stopped}
 
@@ -29,11 +28,6 @@ pub record Walkable (K : Kind) (s : List ℕ) (h : Header) (l : K .Lists) : Type
   pub is-formula : checked s ≡ value h
   pub room : places h ≤ K .room l
   pub legal : All (K .Legal) (K .front (h .inputs) l)
-
--- an instruction stands at the cursor
-pub record Decodable (s : List ℕ) (c : Cursor) : Type 0 where
-  pub near : c .at ≤ 2 ^ 30
-  pub readable : Readable s c
 
 -- the number and place for each way to end
 abbrev pub walked-said : Walked → Said

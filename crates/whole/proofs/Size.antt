@@ -57,13 +57,6 @@ size-gap a (suc b) ha hb = size-subℕ a (suc b) ha hb
 pub size-by : {z w : ℤ} {n : ℕ} → z ≡ w → natAbs w ≤ n → natAbs z ≤ n
 size-by {n} e l = subst (λ (v : ℤ). natAbs v ≤ n) (sym e) l
 
-pub size-zero : (z : ℤ) → natAbs z ≡ 0 → z ≡ pos 0
-size-zero (pos n) e = ap pos e
-size-zero (negsuc n) e = absurd (never e)
-  where
-    never : suc n ≡ 0 → ⊥
-    never e = omega arith
-
 pub mag-size : (z : ℤ) → mag z ≤ natAbs z
 mag-size (pos n) = le-refl n
 mag-size (negsuc n) = omega arith

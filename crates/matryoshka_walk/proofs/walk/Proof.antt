@@ -5,7 +5,7 @@ use Rattle.rules.specs.Lists.{matryoshka-lists}
 use Rattle.formulas.specs.Kinds.{matryoshka-kind}
 use Rattle.formulas.proofs.Lawful.{matryoshka-lawful}
 use Rattle.walks.proofs.Walking.{Walking, walking-start, walking-made, walking-offset, walking-next}
-use Rattle.walks.proofs.Walking.{walking-decodable, walking-steps, walking-less, walking-ends}
+use Rattle.walks.proofs.Walking.{walking-ahead, walking-within, walking-readable, walking-steps, walking-less, walking-ends}
 use Rattle.matryoshka_walk.proofs.Turns.{middles-long, strays-long, margins-long, middles-inside, strays-inside, margins-inside}
 use Rattle.matryoshka_walk.proofs.Turns.{matryoshki-go-on, matryoshki-stop}
 use Rattle.matryoshka_walk.proofs.walk.Statement.{statement}
@@ -26,7 +26,8 @@ walk-spec =
     μ-loop
     (λ c. search (walking-start matryoshka-lawful))
     (λ c. search (walking-made matryoshka-lawful))
-    (λ c κs. search (walking-decodable matryoshka-lawful))
+    (λ c κs. search (walking-ahead matryoshka-lawful))
+    (λ c κs. search (needs, walking-within matryoshka-lawful, walking-readable matryoshka-lawful))
     (λ c κs. search (walking-steps matryoshka-lawful))
     (λ c. search needs)
     (λ c. search needs)
@@ -38,7 +39,7 @@ walk-spec =
     (λ c. search margins-inside)
     (λ c. search (walking-next matryoshka-lawful))
     (λ c. search (walking-less matryoshka-lawful))
-    (λ c. search (matryoshki-go-on (c .before .before .before .before .before .before .before .before .before .before .before .before .before .loop .inv)))
+    (λ c. search (matryoshki-go-on (c .before .before .before .before .before .before .before .before .before .before .before .before .before .before .loop .inv)))
     (λ c. search middles-long)
     (λ c. search strays-long)
     (λ c. search margins-long)
@@ -46,4 +47,4 @@ walk-spec =
     (λ c. search middles-long)
     (λ c. search strays-long)
     (λ c. search margins-long)
-    (λ c. search matryoshki-stop))
+    (λ c. search (matryoshki-stop (c .before .before .before .before .before .before .before .before .before .before .before .before .before .loop .inv))))
