@@ -5,7 +5,7 @@ ghost use Rattle.formulas.specs.Readings.{domain};
 ghost use Rattle.formulas.specs.Kinds.{matryoshka-kind};
 ghost use Rattle.printing.specs.Written.{Wrote};
 ghost use Rattle.listing.specs.OutputLines.{matryoshka-fields};
-ghost use Rattle.telling.specs.Telling.{kind-text};
+ghost use Rattle.telling.specs.Program.{kind-text};
 use admit_run::run;
 use listing::outputs::put_matryoshki;
 use telling::count_of;

@@ -29,8 +29,8 @@ fn finish(
     ensures { λ r. ⌜ Finishes matryoshka-kind (now (s .entry)) h
         (lent matryoshka-kind
         (matryoshka-lists (now («work_middles» .entry)) (now («work_strays» .entry)) (now («work_margins» .entry)))
-        (matryoshka-lists (now («output_middles» .entry)) (now («output_strays» .entry)) (now («output_margins» .entry)))
-        )
+        (matryoshka-lists (now («output_middles» .entry)) (now («output_strays» .entry))
+        (now («output_margins» .entry))))
         (lent matryoshka-kind
         (matryoshka-lists (now («work_middles» .exit)) (now («work_strays» .exit)) (now («work_margins» .exit)))
         (matryoshka-lists (now («output_middles» .exit)) (now («output_strays» .exit)) (now («output_margins» .exit))))
@@ -77,8 +77,8 @@ pub fn carry_out(
         (domain (now (middles .entry)) (now (strays .entry)) (now (margins .entry)))
         (lent matryoshka-kind
         (matryoshka-lists (now («work_middles» .entry)) (now («work_strays» .entry)) (now («work_margins» .entry)))
-        (matryoshka-lists (now («output_middles» .entry)) (now («output_strays» .entry)) (now («output_margins» .entry)))
-        )
+        (matryoshka-lists (now («output_middles» .entry)) (now («output_strays» .entry))
+        (now («output_margins» .entry))))
         (lent matryoshka-kind
         (matryoshka-lists (now («work_middles» .exit)) (now («work_strays» .exit)) (now («work_margins» .exit)))
         (matryoshka-lists (now («output_middles» .exit)) (now («output_strays» .exit)) (now («output_margins» .exit))))

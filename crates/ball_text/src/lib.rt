@@ -5,7 +5,7 @@ ghost use Rattle.formulas.specs.Readings.{ball-readings};
 ghost use Rattle.formulas.specs.Kinds.{ball-kind};
 ghost use Rattle.printing.specs.Written.{Wrote};
 ghost use Rattle.listing.specs.OutputLines.{ball-fields};
-ghost use Rattle.telling.specs.Telling.{kind-text};
+ghost use Rattle.telling.specs.Program.{kind-text};
 use ball_run::run;
 use listing::outputs::put_balls;
 use telling::count_of;

@@ -1,6 +1,6 @@
 -- Eight bytes hold every field of up to 32 bits that starts in the first of them. Assumes nothing.
 use mathlib.Core.Path.{_≡_, refl, sym, _∙_, ap, ap₂}
-use mathlib.Core.List.{List, [], _∷_, _++_, append-assoc}
+use mathlib.Core.List.{List, [], _∷_, _++_, append-assoc, append-nil}
 use Prim.Native.Nat.{ℕ, zero, suc, _+_, _-_, _*_, _/_, _%_, _^_, _≤_, _<_}
 use native.Mathlib.Nat.{mod-eq-of-lt}
 use native.Mathlib.Numerals.{towards-suc}
@@ -145,3 +145,38 @@ field-gather s at j w near inside are =
 
     whole : at + j ≡ 8 * i + o
     whole = omega arith
+
+-- ---- the last byte
+
+drop-to-bits : (o w k n : ℕ) → k ≡ o + w → drop o (to-bits k n) ≡ to-bits w n
+unfolding to-bits
+drop-to-bits zero w k n e = let z : k ≡ w = omega arith in ap (λ j. to-bits j n) z
+drop-to-bits (suc o) w zero n e = absurd (omega arith)
+drop-to-bits (suc o) w (suc k) n e = drop-to-bits o w k n (omega arith)
+
+only-last : (i : ℕ) (s : List ℕ) → length s ≡ suc i → drop i s ≡ getD s i 0 ∷ []
+only-last i [] e = absurd (let l : 0 ≡ suc i = e in omega arith)
+only-last zero (b ∷ []) e = refl
+only-last zero (b ∷ d ∷ s) e = absurd (let l : suc (suc (length s)) ≡ 1 = e in omega arith)
+only-last (suc i) (b ∷ s) e = only-last i s (let l : suc (length s) ≡ suc (suc i) = e in omega arith)
+
+-- from a place in the last byte on, its low bits are left
+pub last-bits : (s : List ℕ) (at : ℕ) → length s ≡ at / 8 + 1
+    → number (drop at (bits s)) ≡ getD s (at / 8) 0 % 2 ^ (8 - at % 8)
+unfolding bits
+last-bits s at e =
+    ap number
+    (ap (λ n. drop n (bits s)) whole ∙ sym (drop-drop (at % 8) (8 * (at / 8)) (bits s))
+    ∙ ap (drop (at % 8)) (sym (bits-drop (at / 8) s) ∙ ap bits (only-last (at / 8) s (e ∙ omega arith))) ∙ in-byte)
+    ∙ number-to-bits (8 - at % 8) b
+  where
+    b : ℕ
+    b = getD s (at / 8) 0
+
+    whole : at ≡ 8 * (at / 8) + at % 8
+    whole = omega arith
+
+    in-byte : drop (at % 8) (bits (b ∷ [])) ≡ to-bits (8 - at % 8) b
+    in-byte =
+        drop-append-le (at % 8) (to-bits 8 b) [] (omega (arith, length-to-bits 8 b))
+        ∙ append-nil (drop (at % 8) (to-bits 8 b)) ∙ drop-to-bits (at % 8) (8 - at % 8) 8 b (omega arith)

@@ -1,10 +1,14 @@
 -- Several readings one after another: the first that is refused, or the place after the last. Assumes nothing.
 use mathlib.Core.Path.{_≡_, refl, sym, _∙_, ap, ap₂}
+use mathlib.Core.Bool.{Bool, false}
 use mathlib.Core.List.{List, _∷_}
-use Prim.Native.Nat.{ℕ, suc, _+_, _-_, _*_, _≤_, _<_, zero-le}
-use native.Mathlib.Nat.{mul-suc}
+use Prim.Native.Nat.{ℕ, suc, _+_, _-_, _*_, _/_, _^_, _≤_, _<_, zero-le}
+use native.Mathlib.Nat.{mul-suc, mul-add}
 use native.Mathlib.Numerals.{add-one}
 use native.Mathlib.Omega.{arith}
+use lib.Dec.{ltb}
+use lib.ListN.{length}
+use borrow.Author.Tests.{ltb-false}
 use Rattle.whole.proofs.Cases.{by-case, less}
 use Rattle.refusals.specs.declared.Refusal.{Refusal}
 use Rattle.refusals.specs.declared.Refusal.the-variants as refusal
@@ -18,12 +22,13 @@ use Rattle.formulas.specs.declared.Instruction.{Instruction}
 use Rattle.packed.specs.declared.InstructionRead.{InstructionRead}
 use Rattle.packed.specs.declared.InstructionRead.the-variants as instruction-read
 use Rattle.packed.specs.Items.{from-below, operand, Form, done, item, read, _>>=_}
-use Rattle.packed.specs.Format.{several}
+use Rattle.packed.specs.Format.{several, instruction}
 use Rattle.packed.specs.ReaderAnswers.{instruction-answer, Instructed}
 use Rattle.packed.proofs.FieldIn.{test-cut, test-failed, test-passed, above-out, between}
 use Rattle.packed.proofs.InTurn.{read-bind, read-item}
+use Rattle.heading.specs.declared.Passed.{Passed}
 use Rattle.heading.specs.declared.Passed.the-variants.{At, Refused}
-use Rattle.checking.specs.CheckAnswers.{place, PassedOver}
+use Rattle.checking.specs.CheckAnswers.{place, PassedBy, PassedOver}
 
 -- ---- one reading
 
@@ -35,14 +40,14 @@ pub record GoesOn {A : Type 0} (s : List ℕ) (f : Form A) (c d : Cursor) : Type
   pub is : read f (before s c) ≡ value (record { got = got; left = before s d })
 
 module _ {s : List ℕ} {f : Form Instruction} {w : ℕ} {c : Cursor} {q : InstructionRead} (e : Instructed s f w c q) where
-  pub instruction-stops : {r : Refusal} → q ≡ instruction-read.Refused r → Stops s f c r
+  instruction-stops : {r : Refusal} → q ≡ instruction-read.Refused r → Stops s f c r
   instruction-stops u = record { is = by-case (instruction-answer s) (e .answers) u }
 
   module _ {i : Instruction} {d : Cursor} (u : q ≡ instruction-read.Got i d) where
-    pub instruction-on : GoesOn s f c d
+    instruction-on : GoesOn s f c d
     instruction-on = record { got = i; is = by-case (instruction-answer s) (e .answers) u }
 
-    pub instruction-near : d .at ≤ c .at + w
+    instruction-near : d .at ≤ c .at + w
     instruction-near = rw u at (e .past)
 
 module _ {s : List ℕ} {v : ℕ} {c : Cursor} {f : Field} (e : field-answer s f ≡ field 10 (before s c)) where
@@ -94,7 +99,7 @@ module _ {A : Type 0} (f : ℕ → Form A) where
           ∙ by-rest x (read (several f k (suc v)) (x .left))
       by-first (refused n) = refl
 
-  pub all-left : (s : List ℕ) (c : Cursor) (v n : ℕ)
+  all-left : (s : List ℕ) (c : Cursor) (v n : ℕ)
       → Left f (place (read (several f n v) (before s c))) s c (v + 0) (n - 0)
   all-left s c v n = record { is = ap₂ (λ m w. place (read (several f m w) (before s c))) all first }
     where
@@ -119,19 +124,65 @@ module _ {A : Type 0} (f : ℕ → Form A) where
       stopped : {r : Refusal} → Stops s (f (v + k)) c r → refuse r ≡ a
       stopped e = rw (e .is) at unrolled
 
-      pub one-on : {d : Cursor} → GoesOn s (f (v + k)) c d → Left f a s d (v + (k + 1)) (n - (k + 1))
+      one-on : {d : Cursor} → GoesOn s (f (v + k)) c d → Left f a s d (v + (k + 1)) (n - (k + 1))
       one-on e = let z : suc (v + k) ≡ v + (k + 1) = omega arith in record { is = rw z at (rw (e .is) at unrolled) }
 
-  -- all were passed, or one was refused
-  module _ {B : Type 0} {g : Form B} {s : List ℕ} {c at : Cursor} (v n k w : ℕ)
-      (l : Left f (place (read g (before s c))) s at (v + k) (n - k)) where
-    pub all-passed : k ≡ n → at .at ≤ c .at + w * k → PassedOver s g (w * n) c (At at)
-    all-passed e p = record { answers = none-left v n k l e; past = rw e at p }
+-- k of the n from c₀ on were passed, each within w bits, and c is the place after them: what is left to read from there
+-- comes to what was to be read at the start
+pub record Passing {A : Type 0} (f : ℕ → Form A) (w : ℕ) (s : List ℕ) (c₀ : Cursor) (v n : ℕ) (c : Cursor) (k : ℕ) : Type 0 where
+  pub most : k ≤ n
+  pub left : Left f (place (read (several f n v) (before s c₀))) s c (v + k) (n - k)
+  pub near : c .at ≤ c₀ .at + w * k
 
-    pub one-refused : {r : Refusal} → k ≤ n → (k ≡ n → ⊥) → Stops s (f (v + k)) at r
-        → PassedOver s g (w * n) c (Refused r)
-    one-refused p q e = record { answers = stopped v n k l p q e; past = tt }
+module _ {A : Type 0} (f : ℕ → Form A) (w : ℕ) (s : List ℕ) (c : Cursor) (v n : ℕ) where
+  pub none-passed : Passing f w s c v n c 0
+  none-passed = record { most = zero-le; left = all-left f s c v n; near = omega arith }
 
--- a cursor after one more
-pub near-on : {c d : Cursor} (x k w : ℕ) → c .at ≤ x + w * k → d .at ≤ c .at + w → d .at ≤ x + w * (k + 1)
-near-on x k w l m = let z : w * (k + 1) ≡ w * k + w = rw add-one (mul-suc w k) in omega arith
+  module _ {at : Cursor} {k : ℕ} (p : Passing f w s c v n at k) where
+    pub all-passed : k ≡ n → PassedOver s (several f n v) (w * n) c (At at)
+    all-passed e = record { answers = none-left f v n k (p .left) e; past = rw e at (p .near) }
+
+    pub rest-passed : {q : Passed} → PassedOver s (several f (n - k) (v + k)) (w * (n - k)) at q
+        → PassedOver s (several f n v) (w * n) c q
+    rest-passed {q} o = record { answers = o .answers ∙ p .left .is; past = by-case-of q (o .past) }
+      where
+        by-case-of : (q : Passed) → PassedBy (w * (n - k)) at q → PassedBy (w * n) c q
+        by-case-of (At d) far =
+            let z : n ≡ k + (n - k) = omega (arith, p .most) in
+            let e : w * n ≡ w * k + w * (n - k) = ap (λ j. w * j) z ∙ mul-add w k (n - k) in
+            omega (arith, p .near)
+        by-case-of (Refused r) far = tt
+
+    module _ (other : k ≡ n → ⊥) where
+      pub one-refused : {r : Refusal} → Stops s (f (v + k)) at r → PassedOver s (several f n v) (w * n) c (Refused r)
+      one-refused e = record { answers = stopped f v n k (p .left) (p .most) other e; past = tt }
+
+      pub one-passed : {d : Cursor} → GoesOn s (f (v + k)) at d → d .at ≤ at .at + w → Passing f w s c v n d (k + 1)
+      one-passed e far =
+          let z : w * (k + 1) ≡ w * k + w = rw add-one (mul-suc w k) in
+          record {
+            most = omega (arith, less (p .most) other);
+            left = one-on f v n k (p .left) (p .most) other e;
+            near = omega (arith, p .near);
+          }
+
+-- ---- instructions
+
+pub eight-there : (s : List ℕ) (c : Cursor) {b : Bool} → b ≡ ltb (length s) (c .at / 8 + 8) → b ≡ false
+    → c .at / 8 + 8 ≤ length s
+eight-there s c e f = ltb-false (length s) (c .at / 8 + 8) (sym e ∙ f)
+
+pub instructions-near : {s : List ℕ} {c at : Cursor} {v n k : ℕ} → Passing instruction 35 s c v n at k → c .at ≤ 32
+    → n ≤ 512 → at .at ≤ 2 ^ 15
+instructions-near p l m = omega (arith, p .near, p .most)
+
+module _ {s : List ℕ} {c at : Cursor} {v n k : ℕ} {q : InstructionRead} where
+  pub instruction-refused : {r : Refusal} → q ≡ instruction-read.Refused r → Instructed s (instruction (v + k)) 35 at q
+      → Passing instruction 35 s c v n at k → (k ≡ n → ⊥) → PassedOver s (several instruction n v) (35 * n) c (Refused r)
+  instruction-refused u e p other = one-refused instruction 35 s c v n p other (instruction-stops e u)
+
+  pub instruction-passed : {i : Instruction} {d : Cursor} → q ≡ instruction-read.Got i d
+      → Instructed s (instruction (v + k)) 35 at q → Passing instruction 35 s c v n at k → (k ≡ n → ⊥)
+      → Passing instruction 35 s c v n d (k + 1)
+  instruction-passed u e p other =
+      one-passed instruction 35 s c v n p other (instruction-on e u) (instruction-near e u)

@@ -14,14 +14,15 @@ use Rattle.formulas.specs.Kinds.{plain-kind, ball-kind, matryoshka-kind}
 use Rattle.parsing.specs.declared.Gathered.{Gathered}
 use Rattle.parsing.specs.declared.Gathered.the-variants.{Got, Malformed}
 use Rattle.parsing.specs.Lines.{some-then}
-use Rattle.parsing.specs.Word.{Job, plain, ball, admit}
+use Rattle.parsing.specs.Word.{Job, admit}
 use Rattle.parsing.specs.ParsingAnswers.{Gathers}
 use Rattle.rows.specs.Rows.{column, rows-of, column-of}
 use Rattle.printing.specs.Written.{Wrote}
 use Rattle.printing.proofs.Again.{wrote-same}
 use Rattle.listing.specs.OutputLines.{plain-fields, ball-fields, matryoshka-fields}
-use Rattle.telling.specs.Telling.{refused-text, another-form, kind-text}
-use Rattle.columns_text.specs.JobLines.{job-text, if-rows, job-with, lines-text}
+use Rattle.telling.specs.Program.{refused-text, another-form, kind-text}
+use Rattle.telling.specs.Program.{job-text, if-rows}
+use Rattle.columns_text.specs.JobLines.{job-with, lines-text}
 use Rattle.columns_text.specs.ColumnsRead.{Lined, FirstRead, SecondRead}
 use Rattle.columns_text.proofs.Taken.{taken-none, taken-some}
 

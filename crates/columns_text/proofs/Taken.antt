@@ -7,7 +7,7 @@ use lib.ListN.{length, take}
 use lib.Seq.{length-take-le}
 use Rattle.parsing.specs.declared.Gathered.{Gathered}
 use Rattle.parsing.specs.declared.Gathered.the-variants.{Got, Malformed}
-use Rattle.parsing.specs.ParsingAnswers.{gathered-answer, FrontOnly, Gathers}
+use Rattle.parsing.specs.ParsingAnswers.{gathered-answer, Gathers}
 
 module _ {A : Type 0} {values : Option (List A)} {old new : List A} {r : Gathered} (g : Gathers values old new r) where
   pub taken-none : r ≡ Malformed → values ≡ none

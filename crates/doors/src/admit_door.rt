@@ -25,8 +25,8 @@ pub extern "C" fn margins_admit(
         (domain (now (middles .entry)) (now (strays .entry)) (now (margins .entry)))
         (lent matryoshka-kind
         (matryoshka-lists (now («work_middles» .entry)) (now («work_strays» .entry)) (now («work_margins» .entry)))
-        (matryoshka-lists (now («output_middles» .entry)) (now («output_strays» .entry)) (now («output_margins» .entry)))
-        )
+        (matryoshka-lists (now («output_middles» .entry)) (now («output_strays» .entry))
+        (now («output_margins» .entry))))
         (lent matryoshka-kind
         (matryoshka-lists (now («work_middles» .exit)) (now («work_strays» .exit)) (now («work_margins» .exit)))
         (matryoshka-lists (now («output_middles» .exit)) (now («output_strays» .exit)) (now («output_margins» .exit))))

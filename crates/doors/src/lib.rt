@@ -1,4 +1,3 @@
-// What a logger in C or Rust links beside the ball job: the check, the plain job and the admission under C names.
+// What a logger in C or Rust links beside the check and the ball job: the plain job and the admission under C names.
 pub mod admit_door;
-pub mod check_door;
 pub mod plain_door;

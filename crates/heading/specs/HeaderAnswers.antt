@@ -23,7 +23,12 @@ pub record WellHeaded (h : Header) (c : Cursor) : Type 0 where
 -- the header that 64 bits begin with
 abbrev pub header-of : ℕ → Header
 header-of x =
-    record { scale = field-at x 7 5; inputs = field-at x 12 5; instructions = field-at x 17 10; outputs = field-at x 27 5 }
+    record {
+      scale = field-at x 7 5;
+      inputs = field-at x 12 5;
+      instructions = field-at x 17 10;
+      outputs = field-at x 27 5;
+    }
 
 pub record HeaderRefused (s : List ℕ) (r : Refusal) : Type 0 where
   pub is : read header (bits s) ≡ refuse r

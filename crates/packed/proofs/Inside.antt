@@ -1,14 +1,14 @@
 -- Reading an instruction out of what is ahead, and whether the bytes end inside it. Assumes nothing.
 use mathlib.Core.Path.{_≡_, refl, sym, _∙_, ap}
-use mathlib.Core.Bool.{Bool, true, false, not}
+use mathlib.Core.Bool.{Bool, true, false, not, cond}
 use mathlib.Core.List.{List}
 use Prim.Native.Nat.{ℕ, _+_, _/_, _^_, _≤_, _<_, zero-le}
 use native.Mathlib.Nat.{mod-lt}
 use native.Mathlib.Omega.{arith}
-use lib.Dec.{eqb, lit≤}
+use lib.Dec.{ltb, eqb, lit≤}
 use lib.IntN.{ℤ}
 use lib.Pow.{pow-pos}
-use borrow.Author.Tests.{eq-eqb, ne-eqb, eqb-true, eqb-false}
+use borrow.Author.Tests.{eq-eqb, ne-eqb, eqb-true, eqb-false, lt-ltb, le-ltb}
 use lib.ListN.{length, drop}
 use lib.Seq.{drop-drop}
 use Rattle.whole.proofs.Machine.{back}
@@ -24,7 +24,7 @@ use Rattle.packed.specs.declared.InstructionRead.the-variants.{Got, Refu
 use Rattle.packed.specs.Items.{code, constant, operand, entry}
 use Rattle.packed.specs.Items.{read}
 use Rattle.packed.specs.Format.{twos-complement, two-operands, by-code, instruction}
-use Rattle.packed.specs.ReaderAnswers.{combined, Instructed, field-at, There, Enough, CutShort}
+use Rattle.packed.specs.ReaderAnswers.{combined, Instructed, field-at, There, Enough, asked-of, CutShort}
 use Rattle.packed.proofs.FieldIn.{above-out, between}
 use Rattle.packed.proofs.Fetched.{missing, wrong, fine}
 use Rattle.packed.proofs.Instructions.{twos-complement-back, by-code-two}
@@ -35,6 +35,16 @@ no-code l = omega arith
 
 pub some-code : {x : ℕ} → 2 ^ 61 ≤ x → x < 2 ^ 64 → field-at x 0 3 ≡ 0 → ⊥
 some-code l m e = omega arith
+
+-- so many bits, by the code
+pub asked-constant : (x : ℕ) → x < 2 ^ 61 → asked-of x ≡ 35
+asked-constant x l = rw (lt-ltb x (2 ^ 61) l)
+
+pub asked-one : (x : ℕ) → 2 ^ 61 ≤ x → x < 2 ^ 62 → asked-of x ≡ 13
+asked-one x l m = rw (le-ltb x (2 ^ 61) l, lt-ltb x (2 ^ 62) m)
+
+pub asked-two : (x : ℕ) → 2 ^ 62 ≤ x → asked-of x ≡ 23
+asked-two x l = rw (le-ltb x (2 ^ 61) (omega arith), le-ltb x (2 ^ 62) l)
 
 -- a constant as the machine keeps it
 pub constant-kept : (x : ℕ) {z : ℤ} → z ≡ twos-complement (field-at x 3 32) → back z ≡ twos-complement (field-at x 3 32)
@@ -166,55 +176,74 @@ module _ (s : List ℕ) (v : ℕ) (c : Cursor) (x : ℕ) (ahead : Ahead (before 
           second-there = λ e m n. record { is = omega arith };
         }
 
-    module _ (e : field-at x 0 3 ≡ 0) where
-      pub cut-constant : length s < (c .at + 42) / 8 → Instructed s (instruction v) 35 c (Refused refusal.Ended)
+    module _ {k : ℕ} (asks : k ≡ asked-of x) (ends : length s < (c .at + k + 7) / 8) (high : x < 2 ^ 64) where
+      cut-constant : field-at x 0 3 ≡ 0 → Instructed s (instruction v) 35 c (Refused refusal.Ended)
       unfolding by-code
-      cut-constant l = refuses (coded-as there 0 (lit≤ tt) e ∙ rw (missing s c x ahead 3 constant (lit≤ tt) l))
+      cut-constant e =
+          let a : asked-of x ≡ 35 = asked-constant x (omega arith) in
+          let l : length s < (c .at + 42) / 8 = omega arith in
+          refuses (coded-as there 0 (lit≤ tt) e ∙ rw (missing s c x ahead 3 constant (lit≤ tt) l))
 
-      pub enough-constant : (c .at + 42) / 8 ≤ length s → Enough s v c x
-      enough-constant l =
+      cut-negate : field-at x 0 3 ≡ 1 → Instructed s (instruction v) 35 c (Refused refusal.Ended)
+      cut-negate e =
+          let a : asked-of x ≡ 13 = asked-one x (omega arith) (omega arith) in
+          let l : length s < (c .at + 20) / 8 = omega arith in
+          let some : (field-at x 0 3 ≡ 0 → ⊥) = λ z. omega arith in
+          refuses (first-operand there (omega arith) some (missing s c x ahead 3 (operand v) (lit≤ tt) l))
+
+      pub cut-one : field-at x 0 3 < 2 → Instructed s (instruction v) 35 c (Refused refusal.Ended)
+      cut-one l = by-test (eqb (field-at x 0 3) 0) refl
+        where
+          by-test : (b : Bool) → eqb (field-at x 0 3) 0 ≡ b → Instructed s (instruction v) 35 c (Refused refusal.Ended)
+          by-test true u = cut-constant (eqb-true (field-at x 0 3) 0 u)
+          by-test false u =
+              let n : (field-at x 0 3 ≡ 0 → ⊥) = eqb-false (field-at x 0 3) 0 u in
+              cut-negate (omega arith)
+
+      pub cut-second : 2 ≤ field-at x 0 3 → field-at x 0 3 < 5 → (c .at + 20) / 8 ≤ length s → field-at x 3 10 < v
+          → Instructed s (instruction v) 35 c (Refused refusal.Ended)
+      cut-second two most u first =
+          let a : asked-of x ≡ 23 = asked-two x (omega arith) in
+          let l : length s < (c .at + 30) / 8 = omega arith in
+          refuses
+          (two-coded there most (λ z. omega arith) (λ z. omega arith)
+          ∙ rw (
+            named 3 (lit≤ tt) (record { is = omega arith }) first,
+            missing s c x ahead 13 (operand v) (lit≤ tt) l,
+          ))
+
+    module _ (two : 2 ≤ field-at x 0 3) (most : field-at x 0 3 < 5) where
+      pub cut-first : length s < (c .at + 20) / 8 → Instructed s (instruction v) 35 c (Refused refusal.Ended)
+      cut-first l =
+          let some : (field-at x 0 3 ≡ 0 → ⊥) = λ z. omega arith in
+          refuses (first-operand there most some (missing s c x ahead 3 (operand v) (lit≤ tt) l))
+
+      pub enough-unnamed : (c .at + 20) / 8 ≤ length s → v ≤ field-at x 3 10 → Enough s v c x
+      enough-unnamed u l =
           record {
             code-there = there;
-            constant-there = λ e. record { is = omega arith };
-            operand-there = λ m n. record { is = omega arith };
-            second-there = λ m n o. record { is = omega arith };
+            constant-there = λ e. absurd (omega arith);
+            operand-there = λ e m. record { is = omega arith };
+            second-there = λ e m n. record { is = omega arith };
           }
 
-    module _ (some : field-at x 0 3 ≡ 0 → ⊥) (most : field-at x 0 3 < 5) where
-      pub cut-operand : length s < (c .at + 20) / 8 → Instructed s (instruction v) 35 c (Refused refusal.Ended)
-      cut-operand l = refuses (first-operand there most some (missing s c x ahead 3 (operand v) (lit≤ tt) l))
-
-      module _ (u : (c .at + 20) / 8 ≤ length s) where
-        enough-operand : (2 ≤ field-at x 0 3 → field-at x 3 10 < v → There s c 23) → Enough s v c x
-        enough-operand f =
-            record {
-              code-there = there;
-              constant-there = λ e. absurd (some e);
-              operand-there = λ e m. record { is = omega arith };
-              second-there = λ e m n. f e n;
-            }
-
-        pub enough-negate : field-at x 0 3 ≡ 1 → Enough s v c x
-        enough-negate e = enough-operand (λ m n. record { is = omega arith })
-
-        pub enough-unnamed : v ≤ field-at x 3 10 → Enough s v c x
-        enough-unnamed l = enough-operand (λ m n. record { is = omega arith })
-
-        pub enough-two : (c .at + 30) / 8 ≤ length s → Enough s v c x
-        enough-two l = enough-operand (λ m n. record { is = omega arith })
-
-        pub cut-second : (field-at x 0 3 ≡ 1 → ⊥) → field-at x 3 10 < v → length s < (c .at + 30) / 8
-            → Instructed s (instruction v) 35 c (Refused refusal.Ended)
-        cut-second two first l =
-            refuses
-            (two-coded there most some two
-            ∙ rw (
-              named 3 (lit≤ tt) (record {
-                is =
-                    omega arith;
-              }) first,
-              missing s c x ahead 13 (operand v) (lit≤ tt) l,
-            ))
+  -- where as many are there as its code asks for, all are
+  pub enough-asked : {k : ℕ} → k ≡ asked-of x → (c .at + k + 7) / 8 ≤ length s → x < 2 ^ 64 → Enough s v c x
+  enough-asked {k} asks l high =
+      record {
+        code-there = record { is = omega (arith, at-least) };
+        constant-there = λ e. let a : asked-of x ≡ 35 = asked-constant x (omega arith) in record { is = omega arith };
+        operand-there = λ e m. record { is = omega (arith, at-least) };
+        second-there = λ e m n. let a : asked-of x ≡ 23 = asked-two x (omega arith) in record { is = omega arith };
+      }
+    where
+      at-least : 13 ≤ asked-of x
+      at-least = by-tests (ltb x (2 ^ 61)) (ltb x (2 ^ 62))
+        where
+          by-tests : (a b : Bool) → 13 ≤ cond a 35 (cond b 13 23)
+          by-tests true b = lit≤ tt
+          by-tests false true = lit≤ tt
+          by-tests false false = lit≤ tt
 
   -- where eight bytes are there, all are
   pub enough-bytes : c .at / 8 + 8 ≤ length s → Enough s v c x

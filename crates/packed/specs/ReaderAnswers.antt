@@ -3,7 +3,7 @@ use mathlib.Core.Path.{_≡_}
 use mathlib.Core.Bool.{Bool, true, false, cond}
 use mathlib.Core.List.{List}
 use Prim.Native.Nat.{ℕ, _+_, _-_, _*_, _/_, _%_, _^_, _≤_, _<_}
-use lib.Dec.{eqb}
+use lib.Dec.{ltb, eqb}
 use lib.ListN.{length}
 use Rattle.refusals.specs.declared.Refusal.the-variants as refusal
 use Rattle.refusals.specs.Answer.{Answer, value, refuse}
@@ -51,6 +51,10 @@ pub record Enough (s : List ℕ) (v : ℕ) (c : Cursor) (x : ℕ) : Type 0 where
   pub constant-there : field-at x 0 3 ≡ 0 → There s c 35
   pub operand-there : 1 ≤ field-at x 0 3 → field-at x 0 3 < 5 → There s c 13
   pub second-there : 2 ≤ field-at x 0 3 → field-at x 0 3 < 5 → field-at x 3 10 < v → There s c 23
+
+-- so many bits it takes, by its code
+abbrev pub asked-of : ℕ → ℕ
+asked-of x = cond (ltb x (2 ^ 61)) 35 (cond (ltb x (2 ^ 62)) 13 23)
 
 -- whether the bytes end inside a field before another refusal is due
 abbrev pub CutShort : List ℕ → ℕ → Cursor → ℕ → Bool → Type 0

@@ -1,9 +1,11 @@
 // An instruction with the tests of its fields; it makes value `below`.
 ghost use mathlib.Core.Path.{_≡_};
-ghost use Prim.Native.Nat.{_^_, _≤_, _<_};
+ghost use Prim.Native.Nat.{_+_, _/_, _^_, _≤_, _<_};
+ghost use lib.Dec.{ltb};
+ghost use lib.ListN.{length};
 ghost use Rattle.bits.specs.Fields.{before, Ahead};
 ghost use Rattle.packed.specs.Format.{twos-complement, instruction};
-ghost use Rattle.packed.specs.ReaderAnswers.{combined, Instructed, Enough, CutShort};
+ghost use Rattle.packed.specs.ReaderAnswers.{combined, Instructed, Enough, asked-of, CutShort};
 use crate::InstructionRead;
 use bits::Cursor;
 use formulas::Instruction;
@@ -34,12 +36,28 @@ pub(crate) fn combine(code: u64, i: usize, j: usize) -> Instruction
     Instruction::Multiply(i, j)
 }
 
+// So many bits an instruction takes, by its code.
+fn asked(x: u64) -> usize
+    ensures { λ r. ⌜ (r ≡ asked-of x) × (r ≤ 35) ⌝ }
+{
+    if x < 0x2000_0000_0000_0000 {
+        return 35;
+    }
+    if x < 0x4000_0000_0000_0000 {
+        return 13;
+    }
+    23
+}
+
 // Whether the bytes end inside a field before another refusal is due. Past their end what is ahead is 0.
 fn cut_short(s: &[u8], x: u64, c: Cursor, below: usize) -> bool
     requires { ⌜ (c .at ≤ 2 ^ 30) × Ahead (before (now s) c) x ⌝ }
     ensures { λ r. ⌜ CutShort (now (s .entry)) below c x r ⌝ }
 {
     let at = c.at;
+    if (at + asked(x) + 7) / 8 <= s.len() {
+        return false;
+    }
     if s.len() < (at + 10) / 8 {
         return true;
     }
@@ -47,25 +65,16 @@ fn cut_short(s: &[u8], x: u64, c: Cursor, below: usize) -> bool
     if 5 <= code {
         return false;
     }
-    if code == 0 {
-        if s.len() < (at + 42) / 8 {
-            return true;
-        }
-        return false;
+    if code < 2 {
+        return true;
     }
     if s.len() < (at + 20) / 8 {
         return true;
     }
-    if code == 1 {
-        return false;
-    }
     if below as u64 <= (x >> 51) % 1024 {
         return false;
     }
-    if s.len() < (at + 30) / 8 {
-        return true;
-    }
-    false
+    true
 }
 
 // An instruction whose fields all are there: they come out of what is ahead.
@@ -74,36 +83,53 @@ fn read_ahead(s: &[u8], x: u64, c: Cursor, below: usize) -> InstructionRead
     ensures { λ r. ⌜ Instructed (now (s .entry)) (instruction below) 35 c r ⌝ }
 {
     let at = c.at;
-    // Code 0. The test asks for all of x, so that the compiler keeps its eight bytes one load.
-    if x < 0x2000_0000_0000_0000 {
-        let constant = (x >> 29) % 0x1_0000_0000;
-        if constant == 0x8000_0000 {
-            return InstructionRead::Refused(Refusal::Constant);
+    // Not code 0. The test asks for all of x, so that the compiler keeps its eight bytes one load.
+    if 0x2000_0000_0000_0000 <= x {
+        let code = (x >> 61) % 8;
+        if 5 <= code {
+            return InstructionRead::Refused(Refusal::Code);
+        }
+        let i = (x >> 51) % 1024;
+        if below as u64 <= i {
+            return InstructionRead::Refused(Refusal::Operand);
+        }
+        if code == 1 {
+            return InstructionRead::Got(Instruction::Negate(i as usize), Cursor { at: at + 13 });
+        }
+        let j = (x >> 41) % 1024;
+        if below as u64 <= j {
+            return InstructionRead::Refused(Refusal::Operand);
         }
         return InstructionRead::Got(
-            Instruction::Constant(signed(constant)),
-            Cursor { at: at + 35 },
+            combine(code, i as usize, j as usize),
+            Cursor { at: at + 23 },
         );
     }
-    let code = (x >> 61) % 8;
-    if 5 <= code {
-        return InstructionRead::Refused(Refusal::Code);
-    }
-    let i = (x >> 51) % 1024;
-    if below as u64 <= i {
-        return InstructionRead::Refused(Refusal::Operand);
-    }
-    if code == 1 {
-        return InstructionRead::Got(Instruction::Negate(i as usize), Cursor { at: at + 13 });
-    }
-    let j = (x >> 41) % 1024;
-    if below as u64 <= j {
-        return InstructionRead::Refused(Refusal::Operand);
+    let constant = (x >> 29) % 0x1_0000_0000;
+    if constant == 0x8000_0000 {
+        return InstructionRead::Refused(Refusal::Constant);
     }
     InstructionRead::Got(
-        combine(code, i as usize, j as usize),
-        Cursor { at: at + 23 },
+        Instruction::Constant(signed(constant)),
+        Cursor { at: at + 35 },
     )
+}
+
+// Whether fewer than eight bytes are there.
+pub fn near_end(s: &[u8], c: Cursor) -> bool
+    requires { ⌜ c .at ≤ 2 ^ 30 ⌝ }
+    ensures { λ r. ⌜ r ≡ ltb (length (now (s .entry))) (c .at / 8 + 8) ⌝ }
+{
+    s.len() < c.at / 8 + 8
+}
+
+// Where eight bytes are there no field can have ended.
+pub fn read_whole(s: &[u8], c: Cursor, below: usize) -> InstructionRead
+    requires { ⌜ (c .at ≤ 2 ^ 30) × (c .at / 8 + 8 ≤ length (now s)) ⌝ }
+    ensures { λ r. ⌜ Instructed (now (s .entry)) (instruction below) 35 c r ⌝ }
+{
+    let x = bits::ahead(s, c);
+    read_ahead(s, x, c, below)
 }
 
 pub fn read_instruction(s: &[u8], c: Cursor, below: usize) -> InstructionRead
@@ -111,9 +137,6 @@ pub fn read_instruction(s: &[u8], c: Cursor, below: usize) -> InstructionRead
     ensures { λ r. ⌜ Instructed (now (s .entry)) (instruction below) 35 c r ⌝ }
 {
     let x = bits::ahead(s, c);
-    if c.at / 8 + 8 <= s.len() {
-        return read_ahead(s, x, c, below);
-    }
     if cut_short(s, x, c, below) {
         return InstructionRead::Refused(Refusal::Ended);
     }

@@ -4,7 +4,7 @@ ghost use lib.ListN.{length};
 ghost use Rattle.formulas.specs.Kinds.{plain-kind};
 ghost use Rattle.printing.specs.Written.{Wrote};
 ghost use Rattle.listing.specs.OutputLines.{plain-fields};
-ghost use Rattle.telling.specs.Telling.{kind-text};
+ghost use Rattle.telling.specs.Program.{kind-text};
 use listing::outputs::put_plain;
 use plain_run::run;
 use telling::count_of;

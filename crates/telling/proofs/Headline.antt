@@ -12,7 +12,8 @@ use Rattle.printing.specs.Decimal.{decimal}
 use Rattle.printing.specs.Written.{Wrote}
 use Rattle.printing.proofs.Again.{wrote-then, wrote-same, wrote-long}
 use Rattle.printing.proofs.Digits.{decimal-short}
-use Rattle.telling.specs.Telling.{refused-word, refused-text, ok-word, ok-text, headline}
+use Rattle.telling.specs.Program.{refused-word, refused-text, ok-word}
+use Rattle.telling.specs.Telling.{headline}
 
 module _ {word o o1 o2 : List ℕ} {p q : ℕ} (n : ℕ) (w : Wrote word 0 o o1 p) (v : Wrote (decimal n) p o1 o2 q) where
   pub end-room : length word + 21 ≤ length o → q < length o2

@@ -1,7 +1,7 @@
 -- What a run that keeps a job's contract left, told by its reply, is what the job prints. Assumes nothing.
 use mathlib.Core.Path.{_≡_, refl, sym, _∙_, ap, ap₂}
 use mathlib.Core.Bool.{Bool, cond}
-use mathlib.Core.List.{List, [], _++_, append-nil}
+use mathlib.Core.List.{List, _++_, append-nil}
 use Prim.Native.Nat.{ℕ, _≤_}
 use native.Mathlib.Omega.{arith}
 use borrow.Author.Tests.{le-leb}
@@ -23,7 +23,7 @@ use Rattle.packed.proofs.WellFormed.{accepted-well-formed}
 use Rattle.printing.specs.Written.{Wrote}
 use Rattle.printing.proofs.Again.{wrote-then, wrote-same}
 use Rattle.listing.specs.OutputLines.{listed}
-use Rattle.telling.specs.Telling.{refused-text, ok-text, text-of, most-values, most-outputs, kind-text}
+use Rattle.telling.specs.Program.{refused-text, ok-text, text-of, most-values, most-outputs, kind-text}
 use Rattle.telling.specs.Telling.{headline, output-count}
 
 -- a reply by what it says

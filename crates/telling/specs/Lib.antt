@@ -1,2 +1,3 @@
--- What the program `margins` prints of a job.
+-- What the program `margins` prints.
+pub mod Program
 pub mod Telling

@@ -18,9 +18,11 @@ use Rattle.parsing.specs.ParsingAnswers.{Finds}
 use Rattle.parsing.proofs.Cuts.{lined, lines-cut, found-none, found-at, found-within}
 use Rattle.printing.specs.Written.{Wrote}
 use Rattle.printing.proofs.Again.{wrote-same, wrote-inside}
-use Rattle.telling.specs.Telling.{refused-text, another-form}
-use Rattle.word_text.specs.Worded.{longest-input, if-lines, by-parts}
-use Rattle.text.specs.Program.{program-text, by-halves, Prints}
+use Rattle.telling.specs.Program.{refused-text, another-form}
+use Rattle.telling.specs.Program.{longest-input, if-lines}
+use Rattle.word_text.specs.Worded.{by-parts}
+use Rattle.telling.specs.Program.{program-text}
+use Rattle.text.specs.Prints.{by-halves, Prints}
 
 -- the part behind a place, as the code lends it
 abbrev behind : ℕ → List ℕ → List ℕ

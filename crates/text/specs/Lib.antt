@@ -1,2 +1,2 @@
--- What the program `margins` prints for what it reads.
-pub mod Program
+-- What the program `margins` prints, as the code comes to it.
+pub mod Prints

@@ -1,7 +1,7 @@
 // From the program's whole input to its whole output.
 ghost use Rattle.printing.specs.Written.{Wrote};
 ghost use Rattle.word_text.specs.Worded.{Short};
-ghost use Rattle.text.specs.Program.{by-halves, Prints};
+ghost use Rattle.text.specs.Prints.{by-halves, Prints};
 use parsing::Found;
 use parsing::finding::find;
 use refusals::Refusal;

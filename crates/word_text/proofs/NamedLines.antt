@@ -16,10 +16,12 @@ use Rattle.hex.specs.Hex.{hex}
 use Rattle.rows.specs.Rows.{each-row}
 use Rattle.printing.specs.Written.{Wrote}
 use Rattle.printing.proofs.Again.{wrote-same}
-use Rattle.telling.specs.Telling.{refused-text, another-form}
-use Rattle.columns_text.specs.JobLines.{if-rows, job-with, lines-text}
+use Rattle.telling.specs.Program.{refused-text, another-form}
+use Rattle.telling.specs.Program.{if-rows}
+use Rattle.columns_text.specs.JobLines.{job-with, lines-text}
 use Rattle.columns_text.proofs.Taken.{taken-none, taken-some}
-use Rattle.word_text.specs.Worded.{if-job, if-lines, by-parts, named-with, Numbered}
+use Rattle.telling.specs.Program.{if-job, if-lines}
+use Rattle.word_text.specs.Worded.{by-parts, named-with, Numbered}
 
 pub numbered : {word : List ℕ} {q u : Named} (k : ℕ) → named-answer q ≡ job-named word → q ≡ u
     → named-answer u ≡ named-with k → k ≤ 3 → Numbered word k

@@ -7,6 +7,5 @@ use Rattle.checking.proofs.passing.padded.Tie as tie
 pub padded-spec : {M : Type 1} → statement M
 padded-spec =
     tie.close
-    (tie.spec (λ c. search needs) (λ c. search byte-follows) (λ c. search no-padding) (λ c. search needs)
-    (λ c. search needs) (λ c κs. search needs) (λ c. search needs) (λ c. search needs) (λ c. search past-padding)
-    (λ c. search some-padding))
+    (tie.spec (λ c. search needs) (λ c. search byte-follows) (λ c. search no-padding) (λ c. search past-padding)
+    (λ c. search needs) (λ c. search needs) (λ c. search needs) (λ c κs. search needs) (λ c. search some-padding))

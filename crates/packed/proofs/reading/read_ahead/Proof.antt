@@ -8,6 +8,6 @@ use Rattle.packed.proofs.reading.read_ahead.Tie as tie
 pub read-ahead-spec : {M : Type 1} → statement M
 read-ahead-spec =
     tie.close
-    (tie.spec (λ c. search constant-refused) (λ c κs. search needs) (λ c. search needs) (λ c. search constant-ahead)
-    (λ c. search unknown-code) (λ c. search first-refused) (λ c. search needs) (λ c. search negate-ahead)
-    (λ c. search second-refused) (λ c κs. search needs) (λ c. search needs) (λ c. search two-ahead))
+    (tie.spec (λ c. search unknown-code) (λ c. search first-refused) (λ c. search needs) (λ c. search negate-ahead)
+    (λ c. search second-refused) (λ c κs. search needs) (λ c. search needs) (λ c. search two-ahead)
+    (λ c. search constant-refused) (λ c κs. search needs) (λ c. search needs) (λ c. search constant-ahead))

@@ -1,19 +1,13 @@
--- Document 01, "The program": what `margins` prints, for every input.
-use mathlib.Core.Bool.{cond}
+-- What `margins` prints, as the code comes to it.
 use mathlib.Core.List.{List, _∷_}
 use mathlib.Core.Option.{some}
 use Prim.Native.Nat.{ℕ, _≤_}
-use lib.Dec.{leb}
 use lib.ListN.{length}
 use Rattle.parsing.specs.Lines.{some-then, lines}
 use Rattle.printing.specs.Written.{Wrote}
-use Rattle.telling.specs.Telling.{refused-text, another-form}
-use Rattle.word_text.specs.Worded.{longest-input, if-lines}
+use Rattle.telling.specs.Program.{if-lines, program-text}
 
-unfoldable pub program-text : List ℕ → List ℕ
-program-text s = cond (leb (length s) longest-input) (if-lines (lines s)) (refused-text another-form)
-
--- the same of an input whose first line is ended
+-- what is printed, of an input whose first line is ended
 unfoldable pub by-halves : List ℕ → List ℕ → List ℕ
 by-halves formula rest = if-lines (some-then (lines rest) (λ ls. some (formula ∷ ls)))
 

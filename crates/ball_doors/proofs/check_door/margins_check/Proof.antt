@@ -1,8 +1,8 @@
 -- `margins_check` meets its contract. Assumes nothing.
 use borrow.Author.Needs.{needs}
 use Rattle.replies.proofs.Telling.{checked-limits, told-formula, told-unread}
-use Rattle.doors.proofs.check_door.margins_check.Statement.{statement}
-use Rattle.doors.proofs.check_door.margins_check.Tie as tie
+use Rattle.ball_doors.proofs.check_door.margins_check.Statement.{statement}
+use Rattle.ball_doors.proofs.check_door.margins_check.Tie as tie
 
 pub margins-check-spec : {M : Type 1} → statement M
 margins-check-spec =
