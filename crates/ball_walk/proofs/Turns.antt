@@ -22,7 +22,9 @@ use Rattle.formulas.specs.declared.Header.{Header}
 use Rattle.formulas.specs.declared.Instruction.{Instruction}
 use Rattle.formulas.specs.Kinds.{ball-kind}
 use Rattle.formulas.proofs.Lawful.{ball-lawful, ball-room}
-use Rattle.packed.specs.Walk.{Decodes}
+use Rattle.packed.specs.declared.loaded.Loaded.{Loaded}
+use Rattle.packed.specs.Loading.{Loads}
+use Rattle.packed.specs.Walk.{DecodesFrom}
 use Rattle.rounding.proofs.Linear.{centre-size}
 use Rattle.rounding.proofs.Products.{kept}
 use Rattle.walks.specs.declared.Walked.the-variants.{Stopped}
@@ -69,15 +71,16 @@ module _ {s : List ℕ} {h : Header} {c : Cursor} {k : ℕ} {cs₀ cs : List ℤ
     pub margins-inside : h .inputs + k < length rs
     margins-inside = omega (arith, inside .1)
 
-    module _ {i : Instruction} {e : Cursor} (decodes : Decodes s c i e) {r : BallStep}
+    module _ {l : Loaded} (loads : Loads s c l) {i : Instruction} {e : Cursor}
+        (from : DecodesFrom s l i e) {r : BallStep}
         (steps : Stepped ball-kind (h .scale) i (h .inputs + k) (ball-lists cs rs) (ball-answer r)) where
       pub balls-stop : {q : Refusal} → r ≡ Refused q → Walks ball-kind s h (ball-lists cs₀ rs₀) (ball-lists cs rs) (Stopped q k)
-      balls-stop t = walking-stops ball-lawful w more decodes steps (ap ball-answer t)
+      balls-stop t = walking-stops ball-lawful w more loads from steps (ap ball-answer t)
 
       pub balls-go-on : {v : Ball} → r ≡ Value v → Walking ball-kind s h e (k + 1) (ball-lists cs₀ rs₀)
           (ball-lists (set cs (h .inputs + k) (back (v .centre))) (set rs (h .inputs + k) (v .margin)))
       balls-go-on {v} t =
-          walking-more ball-lawful w more decodes steps (ap ball-answer t)
+          walking-more ball-lawful w more loads from steps (ap ball-answer t)
           (λ holds many legal.
           subst (λ (z : ℤ). HoldBalls (w .values ++ v ∷ []) (ball-lists cs₀ rs₀)
           (ball-lists (set cs (h .inputs + k) z) (set rs (h .inputs + k) (v .margin))))

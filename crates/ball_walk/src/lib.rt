@@ -5,9 +5,9 @@ ghost use Rattle.formulas.specs.Kinds.{ball-kind};
 ghost use Rattle.walks.specs.Walks.{Named, Operand, Steppable, Stepped, Walkable, Walks};
 use balls::steps;
 use bits::Cursor;
-use bits::ahead;
 use formulas::Header;
 use formulas::Instruction;
+use packed::loaded::load;
 use packed::walking::decode_ahead;
 use rules::Ball;
 use rules::BallStep;
@@ -62,7 +62,7 @@ pub fn walk(s: &[u8], h: Header, centres: &mut [i64], margins: &mut [u64]) -> Wa
             break Walked::Finished(at);
         }
         let made = h.inputs + k;
-        let d = decode_ahead(s, ahead(s, at), at);
+        let d = decode_ahead(s, load(s, at));
         let i = d.instruction;
         let next = d.next;
         match step(h.scale, i, centres, margins, made) {

@@ -12,7 +12,7 @@ use lib.Pow.{field, mod-mod-pow, shr-shr, shl-shr}
 use lib.Seq.{drop-drop}
 use Rattle.bits.specs.declared.Cursor.{Cursor}
 use Rattle.bits.specs.Bits.{bits, number, window-number, WindowBytes, IsWindow}
-use Rattle.bits.specs.Fields.{before, Ahead}
+use Rattle.bits.specs.Fields.{before, Ahead, IsAhead}
 use Rattle.bits.proofs.Gather.{field-gather, length-bits}
 
 -- past the end all are 0
@@ -87,7 +87,7 @@ gone-back s {i} {k} {v} g l = by-place (g .from)
         rw (g .window .is ∙ sym (window-none s k m .is)) (window-none s i (omega arith))
 
 -- a number moved up by k bits: what was k bits further down is found at the same distance from the top
-lifted : (r k o w : ℕ) → k + (o + w) ≤ 64
+pub lifted : (r k o w : ℕ) → k + (o + w) ≤ 64
     → r * 2 ^ k % 2 ^ 64 / 2 ^ (64 - (o + w)) % 2 ^ w ≡ r / 2 ^ (64 - k - (o + w)) % 2 ^ w
 lifted r k o w l =
     ap (λ (n : ℕ). r * 2 ^ k % 2 ^ n / 2 ^ (64 - (o + w)) % 2 ^ w) whole
@@ -105,17 +105,16 @@ lifted r k o w l =
     part = omega arith
 
 -- the window that a cursor stands in, moved up to the cursor
-pub window-ahead : (s : List ℕ) (c : Cursor) {r : ℕ} → IsWindow s (c .at / 8) r
-    → Ahead (before s c) (r * 2 ^ (c .at % 8) % 2 ^ 64)
-window-ahead s c {r} win o w some near long =
-    lifted r (at % 8) o w (omega arith)
-    ∙ ap (λ (n : ℕ). n / 2 ^ (64 - at % 8 - (o + w)) % 2 ^ w) (win .is)
-    ∙ ap (λ (n : ℕ). window-number s (at / 8) / 2 ^ n % 2 ^ w) below
-    ∙ sym (field-gather s at o w (omega arith) (omega (arith, length-drop at (bits s), length-bits s)) (win .bytes))
-    ∙ ap (λ (l : List ℕ). number (take w l)) (sym (drop-drop o at (bits s)))
-  where
-    at : ℕ
-    at = c .at
+module _ (s : List ℕ) (c : Cursor) {r : ℕ} (win : IsWindow s (c .at / 8) r) where
+  fields-ahead : Ahead 57 (before s c) (r * 2 ^ (c .at % 8) % 2 ^ 64)
+  fields-ahead o w some near long =
+      let at = c .at in
+      let below : 64 - at % 8 - (o + w) ≡ 64 - at % 8 - o - w = omega arith in
+      lifted r (at % 8) o w (omega arith)
+      ∙ ap (λ (n : ℕ). n / 2 ^ (64 - at % 8 - (o + w)) % 2 ^ w) (win .is)
+      ∙ ap (λ (n : ℕ). window-number s (at / 8) / 2 ^ n % 2 ^ w) below
+      ∙ sym (field-gather s at o w (omega arith) (omega (arith, length-drop at (bits s), length-bits s)) (win .bytes))
+      ∙ ap (λ (l : List ℕ). number (take w l)) (sym (drop-drop o at (bits s)))
 
-    below : 64 - at % 8 - (o + w) ≡ 64 - at % 8 - o - w
-    below = omega arith
+  pub window-ahead : IsAhead s c (r * 2 ^ (c .at % 8) % 2 ^ 64)
+  window-ahead = record { is = ap (λ n. n * 2 ^ (c .at % 8) % 2 ^ 64) (win .is); fields = fields-ahead }

@@ -3,3 +3,4 @@ pub mod Digits
 pub mod Gather
 pub mod Ends
 pub mod Take
+pub mod OneField

@@ -36,7 +36,7 @@ module _ (s : List ℕ) (c : Cursor) (w : ℕ) (some : 1 ≤ w) where
   pub field-short : length s < (c .at + w + 7) / 8 → refuse refusal.Ended ≡ field w (before s c)
   field-short l = sym (field-ended w (before s c) (omega (arith, left-long)))
 
-  pub field-ahead : (x : ℕ) → (c .at + w + 7) / 8 ≤ length s → w ≤ 32 → Ahead (before s c) x
+  pub field-ahead : (x : ℕ) → (c .at + w + 7) / 8 ≤ length s → w ≤ 32 → Ahead 57 (before s c) x
       → value (record { got = x / 2 ^ (64 - w) % (1 * 2 ^ w % 2 ^ 64); left = drop (c .at + w) (bits s) })
       ≡ field w (before s c)
   field-ahead x l m ahead =

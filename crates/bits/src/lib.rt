@@ -3,7 +3,7 @@ ghost use mathlib.Core.Path.{_≡_};
 ghost use Prim.Native.Nat.{_+_, _*_, _^_, _≤_, _<_};
 ghost use Rattle.bits.specs.Bits.{IsWindow};
 ghost use Rattle.bits.specs.Reader.{field};
-ghost use Rattle.bits.specs.Fields.{before, field-answer, Advanced, Ahead};
+ghost use Rattle.bits.specs.Fields.{before, field-answer, Advanced, IsAhead};
 
 // So many bits from the first.
 pub struct Cursor {
@@ -72,7 +72,7 @@ fn window(s: &[u8], i: usize) -> u64
 // The bits from a cursor on, the first on top: a place in them is the same whatever bit the cursor stands at.
 pub fn ahead(s: &[u8], c: Cursor) -> u64
     requires { ⌜ c .at ≤ 2 ^ 32 ⌝ }
-    ensures { λ r. ⌜ Ahead (before (now (s .entry)) c) r ⌝ }
+    ensures { λ r. ⌜ IsAhead (now (s .entry)) c r ⌝ }
 {
     let at = c.at;
     window(s, at / 8) << (at % 8) as u32

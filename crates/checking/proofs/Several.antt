@@ -22,9 +22,10 @@ use Rattle.formulas.specs.declared.Instruction.{Instruction}
 use Rattle.packed.specs.declared.InstructionRead.{InstructionRead}
 use Rattle.packed.specs.declared.InstructionRead.the-variants as instruction-read
 use Rattle.packed.specs.Items.{from-below, operand, Form, done, item, read, _>>=_}
-use Rattle.packed.specs.Format.{several, instruction}
+use Rattle.packed.specs.Format.{several, instruction, wide}
 use Rattle.packed.specs.ReaderAnswers.{instruction-answer, Instructed}
 use Rattle.packed.proofs.FieldIn.{test-cut, test-failed, test-passed, above-out, between}
+use Rattle.packed.proofs.Instructions.{wide-most}
 use Rattle.packed.proofs.InTurn.{read-bind, read-item}
 use Rattle.heading.specs.declared.Passed.{Passed}
 use Rattle.heading.specs.declared.Passed.the-variants.{At, Refused}
@@ -39,16 +40,16 @@ pub record GoesOn {A : Type 0} (s : List ℕ) (f : Form A) (c d : Cursor) : Type
   pub got : A
   pub is : read f (before s c) ≡ value (record { got = got; left = before s d })
 
-module _ {s : List ℕ} {f : Form Instruction} {w : ℕ} {c : Cursor} {q : InstructionRead} (e : Instructed s f w c q) where
-  instruction-stops : {r : Refusal} → q ≡ instruction-read.Refused r → Stops s f c r
+module _ {s : List ℕ} {v : ℕ} {c : Cursor} {q : InstructionRead} (e : Instructed s v c q) where
+  instruction-stops : {r : Refusal} → q ≡ instruction-read.Refused r → Stops s (instruction v) c r
   instruction-stops u = record { is = by-case (instruction-answer s) (e .answers) u }
 
   module _ {i : Instruction} {d : Cursor} (u : q ≡ instruction-read.Got i d) where
-    instruction-on : GoesOn s f c d
+    instruction-on : GoesOn s (instruction v) c d
     instruction-on = record { got = i; is = by-case (instruction-answer s) (e .answers) u }
 
-    instruction-near : d .at ≤ c .at + w
-    instruction-near = rw u at (e .past)
+    instruction-near : d .at ≤ c .at + 35
+    instruction-near = let p : d .at ≡ c .at + wide i = rw u at (e .past) in omega (arith, p, wide-most i)
 
 module _ {s : List ℕ} {v : ℕ} {c : Cursor} {f : Field} (e : field-answer s f ≡ field 10 (before s c)) where
   pub output-cut : f ≡ Ended → Stops s (item (operand v)) c refusal.Ended
@@ -177,12 +178,12 @@ pub instructions-near : {s : List ℕ} {c at : Cursor} {v n k : ℕ} → Passing
 instructions-near p l m = omega (arith, p .near, p .most)
 
 module _ {s : List ℕ} {c at : Cursor} {v n k : ℕ} {q : InstructionRead} where
-  pub instruction-refused : {r : Refusal} → q ≡ instruction-read.Refused r → Instructed s (instruction (v + k)) 35 at q
+  pub instruction-refused : {r : Refusal} → q ≡ instruction-read.Refused r → Instructed s (v + k) at q
       → Passing instruction 35 s c v n at k → (k ≡ n → ⊥) → PassedOver s (several instruction n v) (35 * n) c (Refused r)
   instruction-refused u e p other = one-refused instruction 35 s c v n p other (instruction-stops e u)
 
   pub instruction-passed : {i : Instruction} {d : Cursor} → q ≡ instruction-read.Got i d
-      → Instructed s (instruction (v + k)) 35 at q → Passing instruction 35 s c v n at k → (k ≡ n → ⊥)
+      → Instructed s (v + k) at q → Passing instruction 35 s c v n at k → (k ≡ n → ⊥)
       → Passing instruction 35 s c v n d (k + 1)
   instruction-passed u e p other =
       one-passed instruction 35 s c v n p other (instruction-on e u) (instruction-near e u)

@@ -16,7 +16,7 @@ use Rattle.parsing.specs.declared.Gathered.the-variants.{Got, Malformed}
 use Rattle.parsing.specs.Lines.{some-then}
 use Rattle.parsing.specs.Word.{Job, admit}
 use Rattle.parsing.specs.ParsingAnswers.{Gathers}
-use Rattle.rows.specs.Rows.{column, rows-of, column-of}
+use Rattle.rows.specs.Rows.{column, rows-of, column-of, column-front}
 use Rattle.printing.specs.Written.{Wrote}
 use Rattle.printing.proofs.Again.{wrote-same}
 use Rattle.listing.specs.OutputLines.{plain-fields, ball-fields, matryoshka-fields}
@@ -66,10 +66,10 @@ lines-of k bytes s r e = ap₂ (λ (job : Job) o. if-rows job bytes o) e (r .are
 
 -- a column more, in the code's shape
 module _ {k n : ℕ} {s out : List ℕ} {old new : List ℤ} {q : Gathered} where
-  pub first-read : Gathers (column-of k 0 s) old new q → q ≡ Got n → Lined 1 k s out → FirstRead k s (take n new) out
+  pub first-read : Gathers (column-of k 0 s) (column-front k 0 s) old new q → q ≡ Got n → Lined 1 k s out → FirstRead k s (take n new) out
   first-read g e l = record { lined = l; first-is = taken-some g e }
 
-  pub second-read : {first : List ℤ} → Gathers (column-of k 1 s) old new q → q ≡ Got n → FirstRead k s first out
+  pub second-read : {first : List ℤ} → Gathers (column-of k 1 s) (column-front k 1 s) old new q → q ≡ Got n → FirstRead k s first out
       → (k ≡ 1 → ⊥) → SecondRead k s first (take n new) out
   second-read g e f d =
       let l = f .lined in
@@ -81,7 +81,7 @@ module _ {k n : ℕ} {s out : List ℕ} {old new : List ℤ} {q : Gathered} wher
 
 -- what was printed
 module _ (k : ℕ) (bytes s : List ℕ) {o now : List ℕ} {t : ℕ} where
-  pub told-malformed : (j : ℕ) {old new : List ℤ} {q : Gathered} → Gathers (column-of k j s) old new q → q ≡ Malformed
+  pub told-malformed : (j : ℕ) {old new : List ℤ} {q : Gathered} → Gathers (column-of k j s) (column-front k j s) old new q → q ≡ Malformed
       → Wrote (refused-text another-form) 0 o now t → Wrote (lines-text k bytes s) 0 o now t
   unfolding lines-text
   told-malformed j g e w = wrote-same (sym (ap (if-rows (job-with k) bytes) (no-rows k s j (taken-none g e)))) w
@@ -102,7 +102,7 @@ module _ (k : ℕ) (bytes s : List ℕ) {o now : List ℕ} {t : ℕ} where
         ∙ ap₂ (λ (x y : List ℤ). kind-text ball-kind ball-fields bytes (ball-readings x y))
         (column-told k s 0 r (f .first-is)) (column-told k s 1 r (f .second-is)))) w
 
-    pub told-domain : {n : ℕ} {old new : List ℤ} {q : Gathered} → Gathers (column-of k 2 s) old new q → q ≡ Got n
+    pub told-domain : {n : ℕ} {old new : List ℤ} {q : Gathered} → Gathers (column-of k 2 s) (column-front k 2 s) old new q → q ≡ Got n
         → (k ≡ 2 → ⊥) → Wrote (kind-text matryoshka-kind matryoshka-fields bytes (domain cs ss (take n new))) 0 o now t
         → Wrote (lines-text k bytes s) 0 o now t
     told-domain g e d w =

@@ -9,7 +9,8 @@ use Rattle.parsing.specs.declared.Gathered.{Gathered}
 use Rattle.parsing.specs.declared.Gathered.the-variants.{Got, Malformed}
 use Rattle.parsing.specs.ParsingAnswers.{gathered-answer, Gathers}
 
-module _ {A : Type 0} {values : Option (List A)} {old new : List A} {r : Gathered} (g : Gathers values old new r) where
+module _ {A : Type 0} {values : Option (List A)} {most old new : List A} {r : Gathered}
+    (g : Gathers values most old new r) where
   pub taken-none : r ≡ Malformed → values ≡ none
   taken-none e = g .told ∙ ap (gathered-answer new) e
 

@@ -3,23 +3,27 @@ use mathlib.Core.Path.{_≡_, refl, sym, _∙_, ap, ap₂, subst}
 use mathlib.Core.Bool.{Bool, true}
 use mathlib.Core.List.{List, [], _∷_, map}
 use Prim.Native.Nat.{ℕ}
-use native.Mathlib.Nat.{le-trans, mul-le-mul-right}
+use native.Mathlib.Nat.{le-trans, le-of-eq, add-le-add, add-mul, mul-le-mul-right}
 use native.Mathlib.Omega.{arith}
-use lib.IntN.{ℤ, pos, natAbs}
-use lib.ListN.{getD, take, length-map}
+use lib.IntN.{ℤ, pos, natAbs, _-ℤ_, _*ℤ_}
+use lib.ListN.{length, getD, take, length-map}
 use Rattle.lists.specs.Each.{Each}
+use Rattle.lists.specs.Over.{over}
 use Rattle.lists.specs.Joined.{Rel}
 use Rattle.lists.proofs.Joined.{rel-length, rel-picked}
 use Rattle.refusals.specs.declared.Reply.{Reply}
 use Rattle.refusals.specs.declared.Reply.the-variants.{Done}
 use Rattle.rules.specs.declared.Ball.{Ball}
 use Rattle.rules.specs.declared.Matryoshka.{Matryoshka}
+use Rattle.whole.proofs.Ring.{ring, _⊕_, _⊖_, _⊗_, x₀, x₁, x₂, x₃}
+use Rattle.whole.proofs.Size.{size-by, size-add, size-mul}
+use Rattle.rules.specs.Numbers.{Q}
 use Rattle.rules.specs.Values.{Fraction, Contains, Covers}
 use Rattle.rules.specs.Plain.{plain-rule}
 use Rattle.rules.specs.Lists.{balls, centres-of, no-ball, matryoshki, static-margins-of, no-matryoshka}
 use Rattle.rules.proofs.Lists.{centre-part, static-part, balls-centres}
 use Rattle.lists.proofs.PartOf.{part-front}
-use Rattle.formulas.specs.Formula.{Smaller}
+use Rattle.formulas.specs.Formula.{Smaller, places}
 use Rattle.formulas.specs.Run.{finished, run}
 use Rattle.formulas.specs.Readings.{BallReadings, Domain, plain-tested, ball-tested, domain-tested, if-fit}
 use Rattle.formulas.specs.Kinds.{plain-kind, ball-kind, matryoshka-kind}
@@ -30,8 +34,8 @@ use Rattle.formulas.proofs.Covering.{CoveredRun, run-covers}
 use Rattle.formulas.proofs.Fitting.{let-in, ball-fit, balls-even, ball-many}
 use Rattle.formulas.proofs.Lawful.{plain-lawful, matryoshka-lawful}
 use Rattle.packed.specs.Meaning.{formula}
-use Rattle.demands.specs.Demands.{Chosen, exact-outputs, InDomain, LongEnough, Admitted}
-use Rattle.demands.proofs.Answering.{picked, Answers, answers, all-made, AnswersWith, answers-with}
+use Rattle.demands.specs.Demands.{Chosen, exact-outputs, InDomain, LongEnough, WithinStray, stray-plus-margin, Admitted}
+use Rattle.demands.proofs.Answering.{picked, Answers, answers, all-made, outputs-stand, AnswersWith, answers-with}
 use Rattle.demands.proofs.Nearness.{near-covered, near-tested}
 
 -- a ball's centre with the margin of what covers it still contains what the ball contains
@@ -40,6 +44,32 @@ covering-margins : (F : ℕ) {ms : List Matryoshka} {bs : List Ball} {xs : List 
 covering-margins F Rel.none Rel.none = Rel.none
 covering-margins F (Rel.one c cs) (Rel.one {b = x} i is) =
     Rel.one (record { near = le-trans (i .near) (mul-le-mul-right (x .denominator) (c .doubts)) }) (covering-margins F cs is)
+
+-- what covers a ball strays from its centre by no more than its stray
+covering-strays : {ms : List Matryoshka} {bs : List Ball} → Rel Covers ms bs → Rel WithinStray ms (centres-of bs)
+covering-strays Rel.none = Rel.none
+covering-strays (Rel.one c cs) = Rel.one (c .strays) (covering-strays cs)
+
+-- n·Q − C·d is n·Q − c·d and (c − C)·d
+near-middle : (F : ℕ) (m : Matryoshka) (b : Ball) (x : Fraction) → Covers m b → Contains F b x → Contains F (stray-plus-margin m) x
+near-middle F m b x c i =
+    let d = x .denominator in
+    record {
+      near =
+          size-by
+          (ring ((x .numerator *ℤ pos (Q F)) ∷ m .middle ∷ b .centre ∷ pos d ∷ []) (x₀ ⊖ x₁ ⊗ x₃) ((x₂ ⊖ x₁) ⊗ x₃ ⊕ (x₀ ⊖ x₂ ⊗ x₃)) refl)
+          (le-trans (size-add ((b .centre -ℤ m .middle) *ℤ pos d) (x .numerator *ℤ pos (Q F) -ℤ b .centre *ℤ pos d))
+          (le-trans
+          (add-le-add
+          (le-trans (le-of-eq (size-mul (b .centre -ℤ m .middle) (pos d))) (mul-le-mul-right d (c .strays)))
+          (le-trans (i .near) (mul-le-mul-right d (c .doubts))))
+          (le-of-eq (sym (add-mul (m .stray) (m .margin) d)))));
+    }
+
+covering-middles : (F : ℕ) {ms : List Matryoshka} {bs : List Ball} {xs : List Fraction} → Rel Covers ms bs → Rel (Contains F) bs xs
+    → Rel (Contains F) (map stray-plus-margin ms) xs
+covering-middles F Rel.none Rel.none = Rel.none
+covering-middles F (Rel.one {a = m} {b = b} c cs) (Rel.one {b = x} i is) = Rel.one (near-middle F m b x c i) (covering-middles F cs is)
 
 module _ {s : List ℕ} {d : Domain} {old new : Lent matryoshka-kind} {n : ℕ} (a : Answers matryoshka-kind s d old new n) where
   abbrev F : ℕ
@@ -77,11 +107,11 @@ module _ {s : List ℕ} {d : Domain} {old new : Lent matryoshka-kind} {n : ℕ} 
         ∙ covers .plain-finishes
 
     plain-answers : (lent : Lent plain-kind) {after : Lent plain-kind} (r : Reply) → LongEnough plain-kind (a .on .formula .header) lent
-        → Kept plain-kind (formula s) (g .centres) lent after r → AnswersWith plain-kind (picked (pos 0) (centres-of (covers .made)) os) lent after r n
+        → Kept plain-kind (formula s) (g .centres) lent after r → AnswersWith plain-kind (a .on .formula) (centres-of (covers .made)) lent after r n
     plain-answers lent r u k = answers-with plain-kind s r (a .started .means) (ap (λ (t : Bool). if-fit t (g .centres)) (tested .0)) u bare (a .as-many) k
 
     ball-answers : (lent : Lent ball-kind) {after : Lent ball-kind} (r : Reply) → LongEnough ball-kind (a .on .formula .header) lent
-        → Kept ball-kind (formula s) g lent after r → AnswersWith ball-kind outs lent after r n
+        → Kept ball-kind (formula s) g lent after r → AnswersWith ball-kind (a .on .formula) (covers .made) lent after r n
     ball-answers lent r u k = answers-with ball-kind s r (a .started .means) (ap (λ (t : Bool). if-fit t readings) (tested .1)) u (covers .balls-finish) (a .as-many) k
 
     -- the bare answers are the centres of the covered outputs
@@ -89,13 +119,21 @@ module _ {s : List ℕ} {d : Domain} {old new : Lent matryoshka-kind} {n : ℕ} 
     each-centre [] = refl
     each-centre (p ∷ ps) = ap₂ _∷_ (centre-part .at (covers .made) p) (each-centre ps)
 
-    plain-stand : (lent : Lent plain-kind) {after : Lent plain-kind} {r : Reply} → AnswersWith plain-kind (picked (pos 0) (centres-of (covers .made)) os) lent after r n
+    plain-stand : (lent : Lent plain-kind) {after : Lent plain-kind} {r : Reply} → AnswersWith plain-kind (a .on .formula) (centres-of (covers .made)) lent after r n
         → take n (after .output) ≡ centres-of outs
-    plain-stand lent {after} p = plain-lawful .front-holds _ n (lent .output) (after .output) (p .many) (p .holds) ∙ each-centre os
+    plain-stand lent {after} p = plain-lawful .front-holds _ n (lent .output) (after .output) (p .many) (p .output-holds) ∙ each-centre os
 
-    centres-stand : (lent : Lent ball-kind) {after : Lent ball-kind} {r : Reply} → AnswersWith ball-kind outs lent after r n
+    centres-stand : (lent : Lent ball-kind) {after : Lent ball-kind} {r : Reply} → AnswersWith ball-kind (a .on .formula) (covers .made) lent after r n
         → take n (after .output .centres) ≡ centres-of outs
-    centres-stand lent p = part-front centre-part outs (lent .output .centres) (p .many) (p .holds .centres-hold)
+    centres-stand lent p = part-front centre-part outs (lent .output .centres) (p .many) (p .output-holds .centres-hold)
+
+    all-covered : length (covers .made) ≡ places (a .on .formula .header)
+    all-covered = sym (rel-length (covers .covered)) ∙ all-made matryoshka-lawful a
+
+    -- all values of the plain run and all centres of the ball run, wherever they were written
+    all-centres-stand : (was : List ℤ) {now : List ℤ} → now ≡ over (centres-of (covers .made)) was
+        → take (places (a .on .formula .header)) now ≡ centres-of (covers .made)
+    all-centres-stand was h = part-front centre-part (covers .made) was all-covered h
 
     covered-outputs : Rel Covers (picked no-matryoshka (a .made) os) outs
     covered-outputs =
@@ -108,7 +146,7 @@ module _ {s : List ℕ} {d : Domain} {old new : Lent matryoshka-kind} {n : ℕ} 
         (run-encloses F no-ball (a .on .formula .program) c
         (subst (λ (m : ℕ). Each Smaller m (a .on .formula .program)) (sym (ball-many (ball-fit (a .on .formula .header .inputs) g (tested .1)))) (a .well .operands-smaller))
         (covers .balls-finish) x)
-        (a .well .results-below) (omega (arith, all-made matryoshka-lawful a, rel-length (covers .covered)))
+        (a .well .results-below) (omega (arith, all-covered))
 
   static-stand : take n (new .output .margins) ≡ static-margins-of (picked no-matryoshka (a .made) os)
   static-stand =
@@ -126,8 +164,17 @@ demand-3 {s} {n = n} k =
       ball-runs = λ w lent r u p. ball-answers a w lent r u p .is;
       centres-agree = λ w lent r u p before t v q.
           plain-stand a w lent (plain-answers a w lent r u p) ∙ sym (centres-stand a w before (ball-answers a w before t v q));
+      values-agree = λ w lent r u p before t v q.
+          all-centres-stand a w (lent .work) (plain-answers a w lent r u p .work-holds)
+          ∙ sym (all-centres-stand a w (before .work .centres) (ball-answers a w before t v q .work-holds .centres-hold));
       answers-close = λ w lent r u p xs ys c x.
           subst (λ (bs : List Ball). Rel (Contains F) bs (exact-outputs (a .on .formula) ys))
           (sym (ap₂ balls (plain-stand a w lent (plain-answers a w lent r u p)) (static-stand a)))
           (covering-margins F (covered-outputs a w) (enclosed-outputs a w c x));
+      centres-near = λ w lent r u p.
+          subst (Rel WithinStray _) (sym (plain-stand a w lent (plain-answers a w lent r u p)))
+          (subst (λ (ms : List Matryoshka). Rel WithinStray ms (centres-of (outs a w))) (sym (outputs-stand matryoshka-lawful a)) (covering-strays (covered-outputs a w)));
+      answers-near = λ w xs ys c x.
+          subst (λ (ms : List Matryoshka). Rel (Contains F) (map stray-plus-margin ms) (exact-outputs (a .on .formula) ys)) (sym (outputs-stand matryoshka-lawful a))
+          (covering-middles F (covered-outputs a w) (enclosed-outputs a w c x));
     }

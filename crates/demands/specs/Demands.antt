@@ -3,7 +3,7 @@
 use mathlib.Core.Path.{_≡_}
 use mathlib.Core.Bool.{true}
 use mathlib.Core.List.{List, [], _∷_, map}
-use Prim.Native.Nat.{ℕ, _≤_}
+use Prim.Native.Nat.{ℕ, _+_, _≤_}
 use lib.IntN.{ℤ, _-ℤ_, natAbs}
 use lib.ListN.{getD, take}
 use lib.Signed.{nonNeg}
@@ -11,7 +11,10 @@ use Rattle.lists.specs.Joined.{Rel}
 use Rattle.refusals.specs.declared.Reply.{Reply}
 use Rattle.refusals.specs.declared.Reply.the-variants.{Done}
 use Rattle.refusals.specs.Answer.{value}
+use Rattle.rules.specs.declared.Ball.{Ball}
+use Rattle.rules.specs.declared.Matryoshka.{Matryoshka}
 use Rattle.rules.specs.Values.{Fraction, Contains}
+use Rattle.rules.specs.Balls.{ball}
 use Rattle.rules.specs.Lists.{balls}
 use Rattle.formulas.specs.declared.Header.{Header}
 use Rattle.formulas.specs.Formula.{Formula, places}
@@ -54,8 +57,17 @@ InDomain d g = Near (d .middles) (d .strays) (d .margins) (g .centres) (g .margi
 abbrev pub LongEnough : (K : Kind) → Header → Lent K → Type 0
 LongEnough K h lent = roomy h (K .room (lent .work)) (K .room (lent .output)) ≡ true
 
+-- "The middle and stray of a matryoshka bound computed centres only"
+abbrev pub WithinStray : Matryoshka → ℤ → Type 0
+WithinStray m c = natAbs (c -ℤ m .middle) ≤ m .stray
+
+-- "a bound on the exact value needs the margin added"
+abbrev pub stray-plus-margin : Matryoshka → Ball
+stray-plus-margin m = ball (m .middle) (m .stray + m .margin)
+
 -- "For an admitted domain, readings within it are never refused, plain and ball centres agree, and exact arithmetic
--- stays within the static margin of the bare answer"; the static margins are those that the admission wrote
+-- stays within the static margin of the bare answer"; the middles, strays and static margins are those that the
+-- admission wrote
 pub record Admitted (s : List ℕ) (d : Domain) (left : Lent matryoshka-kind) (n : ℕ) : Type 0 where
   pub meant : Formula
   pub means : formula s ≡ value meant
@@ -68,9 +80,21 @@ pub record Admitted (s : List ℕ) (d : Domain) (left : Lent matryoshka-kind) (n
       → (before : Lent ball-kind) {after : Lent ball-kind} (t : Reply)
       → LongEnough ball-kind (meant .header) before → Kept ball-kind (formula s) g before after t
       → take n (new .output) ≡ take n (after .output .centres)
+  pub values-agree : {g : BallReadings} → InDomain d g → (old : Lent plain-kind) {new : Lent plain-kind} (r : Reply)
+      → LongEnough plain-kind (meant .header) old → Kept plain-kind (formula s) (g .centres) old new r
+      → (before : Lent ball-kind) {after : Lent ball-kind} (t : Reply)
+      → LongEnough ball-kind (meant .header) before → Kept ball-kind (formula s) g before after t
+      → take (places (meant .header)) (new .work) ≡ take (places (meant .header)) (after .work .centres)
   pub answers-close : {g : BallReadings} → InDomain d g → (old : Lent plain-kind) {new : Lent plain-kind} (r : Reply)
       → LongEnough plain-kind (meant .header) old → Kept plain-kind (formula s) (g .centres) old new r
       → (xs ys : List Fraction) → Chosen (meant .header .scale) g xs
       → ExactRun (meant .header .scale) (meant .program) xs ys
       → Rel (Contains (meant .header .scale)) (balls (take n (new .output)) (take n (left .output .margins)))
+      (exact-outputs meant ys)
+  pub centres-near : {g : BallReadings} → InDomain d g → (old : Lent plain-kind) {new : Lent plain-kind} (r : Reply)
+      → LongEnough plain-kind (meant .header) old → Kept plain-kind (formula s) (g .centres) old new r
+      → Rel WithinStray (matryoshka-kind .front n (left .output)) (take n (new .output))
+  pub answers-near : {g : BallReadings} → InDomain d g → (xs ys : List Fraction) → Chosen (meant .header .scale) g xs
+      → ExactRun (meant .header .scale) (meant .program) xs ys
+      → Rel (Contains (meant .header .scale)) (map stray-plus-margin (matryoshka-kind .front n (left .output)))
       (exact-outputs meant ys)

@@ -10,7 +10,9 @@ use lib.ListN.{length, length-map}
 use lib.Signed.{nonNeg}
 use Rattle.whole.proofs.Cases.{both}
 use Rattle.lists.specs.All.{All, none, one}
-use Rattle.refusals.specs.Answer.{value}
+use Rattle.refusals.specs.declared.Refusal.the-variants.{Readings}
+use Rattle.refusals.specs.Refusals.{refusal-number}
+use Rattle.refusals.specs.Answer.{value, refused}
 use Rattle.refusals.proofs.Answers.{no-value, same-value}
 use Rattle.rules.specs.Numbers.{M}
 use Rattle.rules.specs.Values.{Allowed, IsBall, IsMatryoshka}
@@ -24,6 +26,10 @@ use Rattle.formulas.specs.Readings.{plain-fits, ball-fits, matryoshka-fi
 pub let-in : {A : Type 0} (t : Bool) (vs : List A) {ws : List A} → if-fit t vs ≡ value ws → (t ≡ true) × (vs ≡ ws)
 let-in true vs e = (refl, same-value e)
 let-in false vs e = absurd (no-value e)
+
+pub not-let-in : {A : Type 0} (t : Bool) (vs : List A) {n : ℕ} → if-fit t vs ≡ refused n → n ≡ refusal-number Readings
+not-let-in true vs e = absurd (no-value (sym e))
+not-let-in false vs e = cc
 
 count-agrees : (n m : ℕ) (t : Bool) → (eqb n m && t) ≡ true → (n ≡ m) × (t ≡ true)
 count-agrees n m t e = let b = both (eqb n m) t e in (eqb-true n m (b .0), b .1)

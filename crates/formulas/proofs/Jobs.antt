@@ -2,22 +2,25 @@
 use mathlib.Core.Path.{_≡_, refl, sym, _∙_, ap, ap₂, subst}
 use mathlib.Core.Bool.{Bool, true, false, _&&_}
 use mathlib.Core.List.{List, [], map}
-use Prim.Native.Nat.{ℕ, _-_, _≤_}
+use Prim.Native.Nat.{ℕ, _-_, _≤_, _<_}
+use native.Mathlib.Omega.{arith}
 use borrow.Author.Tests.{leb-true, le-leb}
 use lib.Dec.{leb}
-use lib.ListN.{getD}
+use lib.ListN.{length, getD}
 use Rattle.whole.proofs.Cases.{both}
 use Rattle.refusals.specs.declared.Refusal.{Refusal}
 use Rattle.refusals.specs.declared.Reply.{Reply}
 use Rattle.refusals.specs.declared.Reply.the-variants.{Refused}
+use Rattle.refusals.specs.Refusals.{refusal-number}
 use Rattle.refusals.specs.Answer.{Answer, value, refused, refuse, then}
 use Rattle.refusals.specs.Said.{answered, refuses, reply-said}
 use Rattle.refusals.proofs.Answers.{no-value, same-value, first-of, then-value}
 use Rattle.refusals.proofs.OneReply.{never-both, one-reply, first-said, place-said}
-use Rattle.formulas.specs.Formula.{Formula, places}
+use Rattle.formulas.specs.Formula.{Formula, places, WellFormed}
 use Rattle.formulas.specs.Run.{Walk, finished, stopped, made-by, walk-end}
 use Rattle.formulas.specs.Kinds.{Kind}
-use Rattle.formulas.specs.Job.{Started, if-room, start, Result, refused-first, stopped-at, done, walk-ended, started-run, if-started, job, work-of, outputs-of, said, Lent, lent-start, lent-job, Kept}
+use Rattle.formulas.specs.Job.{Started, roomy, if-room, start, Result, refused-first, stopped-at, done, walk-ended, started-run, if-started, job, work-of, outputs-of, said, Lent, lent-start, lent-job, Kept}
+use Rattle.formulas.proofs.Walks.{run-long, run-stops}
 use Rattle.formulas.proofs.Lawful.{Lawful}
 
 -- what it means that a job starts
@@ -62,6 +65,46 @@ module _ (K : Kind) (a : Answer Formula) (given : K .Readings) (work output : �
   unfolding job
   job-started e = ap (if-started K) e
 
+  pub starts-done : {st : Started K} {vs : List (K .Value)} → Starts K a given work output st → started-run K st ≡ finished vs
+      → job K a given work output ≡ done vs (map (λ o. getD vs o (K .nothing)) (st .formula .results))
+  starts-done {st} s e = job-started (start-is s) ∙ ap (walk-ended (K .nothing) (st .formula)) e
+
+-- a finished run has a value for each input and each instruction
+pub made-many : {K : Kind} → Lawful K → (a : Answer Formula) (given : K .Readings) (work output : ℕ) {st : Started K} {vs : List (K .Value)}
+    → Starts K a given work output st → WellFormed (st .formula) → started-run K st ≡ finished vs → length vs ≡ places (st .formula .header)
+made-many {K} law a given work output {st} s well e =
+    run-long (K .rule (st .formula .header .scale)) (K .nothing) (st .formula .program) (st .values) e
+    ∙ omega (arith, law .tested-values (st .formula .header .inputs) given (s .fits) .many, well .program-long)
+
+-- what it means that a job is done
+pub record Does (K : Kind) (a : Answer Formula) (given : K .Readings) (work output : ℕ) (vs os : List (K .Value)) : Type 0 where
+  pub on : Started K
+  pub started : Starts K a given work output on
+  pub finishes : started-run K on ≡ finished vs
+  pub picks : os ≡ map (λ o. getD vs o (K .nothing)) (on .formula .results)
+
+pub does : (K : Kind) (a : Answer Formula) (given : K .Readings) (work output : ℕ) {vs os : List (K .Value)} → job K a given work output ≡ done vs os
+    → Does K a given work output vs os
+unfolding job
+does K a given work output {vs} {os} e = by-start (start K a given work output) refl e
+  where
+    by-walk : (st : Started K) → start K a given work output ≡ value st → (w : Walk (K .Value)) → started-run K st ≡ w
+        → walk-ended (K .nothing) (st .formula) w ≡ done vs os → Does K a given work output vs os
+    by-walk st s (stopped m ws) u e = absurd (let z : _≡_ {A = ℕ} 0 1 = cc in omega arith)
+    by-walk st s (finished ws) u e =
+        let same : ws ≡ vs = cc in
+        let outs : map (λ o. getD ws o (K .nothing)) (st .formula .results) ≡ os = cc in
+        record {
+          on = st;
+          started = starts K a given work output s;
+          finishes = u ∙ ap finished same;
+          picks = sym outs ∙ ap (λ (l : List (K .Value)). map (λ o. getD l o (K .nothing)) (st .formula .results)) same;
+        }
+
+    by-start : (x : Answer (Started K)) → start K a given work output ≡ x → if-started K x ≡ done vs os → Does K a given work output vs os
+    by-start (refused m) s e = absurd (let z : _≡_ {A = ℕ} 0 1 = cc in omega arith)
+    by-start (value st) s e = by-walk st s (started-run K st) refl e
+
 -- a walk's end as a job's: stopped, or done with all values
 module _ {A : Type 0} (d : A) (f : Formula) where
   pub ends-stopped : (w : Walk A) {n k : ℕ} → refuses n k ≡ walk-end (f .header .inputs) w → walk-ended d f w ≡ stopped-at k n (made-by w)
@@ -75,7 +118,7 @@ module _ {A : Type 0} (d : A) (f : Formula) where
 
 -- what a job leaves, by how it ended
 module _ {K : Kind} (law : Lawful K) {a : Answer Formula} {given : K .Readings} {old : Lent K} where
-  kept-as : {j : Result (K .Value)} {new : Lent K} (r : Reply) → lent-job K a given old ≡ j → reply-said r ≡ said j
+  pub kept-as : {j : Result (K .Value)} {new : Lent K} (r : Reply) → lent-job K a given old ≡ j → reply-said r ≡ said j
       → K .Holds (work-of j) (old .work) (new .work) → K .Holds (outputs-of j) (old .output) (new .output) → Kept K a given old new r
   kept-as {j} {new} r e s w o =
       record {
@@ -99,8 +142,85 @@ job-one-outcome {K} law {a} {given} {old} new₁ new₂ r t k l = (
       (law .holds-one (outputs-of (lent-job K a given old)) (old .output) (new₁ .output) (new₂ .output) (k .gives) (l .gives)),
 )
 
+-- a job that a step stops does so with none of the refusals 1 to 10
+stopped-late : {K : Kind} → Lawful K → (a : Answer Formula) (given : K .Readings) (work output : ℕ) {k n : ℕ} {vs : List (K .Value)}
+    → job K a given work output ≡ stopped-at k n vs → 10 < n
+unfolding job
+stopped-late {K} law a given work output {k} {n} {vs} e = by-start (start K a given work output) e
+  where
+    by-walk : (st : Started K) (w : Walk (K .Value)) → started-run K st ≡ w → walk-ended (K .nothing) (st .formula) w ≡ stopped-at k n vs → 10 < n
+    by-walk st (finished ws) u e = absurd (let z : _≡_ {A = ℕ} 0 1 = cc in omega arith)
+    by-walk st (stopped m ws) u e =
+        let same : m ≡ n = cc in
+        rw same at
+        (run-stops (K .rule (st .formula .header .scale)) (K .nothing) {P = λ n. 10 < n} (λ o n. law .rule-late (st .formula .header .scale) o) (st .formula .program) (st .values) u)
+
+    by-start : (s : Answer (Started K)) → if-started K s ≡ stopped-at k n vs → 10 < n
+    by-start (refused m) e = absurd (let z : _≡_ {A = ℕ} 0 1 = cc in omega arith)
+    by-start (value st) e = by-walk st (started-run K st) refl e
+
 -- "a refusal writes no output": a job that refuses gives none
 pub refused-outputs : {A : Type 0} (j : Result A) {n k : ℕ} → refuses n k ≡ said j → outputs-of j ≡ []
 refused-outputs (refused-first n) e = refl
 refused-outputs (stopped-at k n vs) e = refl
 refused-outputs (done vs os) e = absurd (never-both (sym e))
+
+-- a job's refusal has a number from 1 on where its formula's has
+module _ {K : Kind} (law : Lawful K) (a : Answer Formula) (given : K .Readings) (work output : ℕ) (numbered : (m : ℕ) → a ≡ refused m → 1 ≤ m) where
+  start-numbered : {n : ℕ} → start K a given work output ≡ refused n → 1 ≤ n
+  unfolding start
+  start-numbered {n} e = by-formula a refl e
+    where
+      by-room : (t : Bool) (st : Started K) → if-room t st ≡ refused n → 1 ≤ n
+      by-room true st e = absurd (no-value (sym e))
+      by-room false st e = let same : 10 ≡ n = cc in omega arith
+
+      room : Formula → List (K .Value) → Answer (Started K)
+      room f vs = if-room (roomy (f .header) work output) (record { formula = f; values = vs })
+
+      by-tested : (f : Formula) (v : Answer (List (K .Value))) → K .tested (f .header .inputs) given ≡ v → then v (room f) ≡ refused n → 1 ≤ n
+      by-tested f (refused m) u e = let same : m ≡ n = cc in omega (arith, law .tested-refused (f .header .inputs) given u)
+      by-tested f (value vs) u e = by-room (roomy (f .header) work output) (record { formula = f; values = vs }) e
+
+      by-formula : (b : Answer Formula) → a ≡ b → then b (λ f. then (K .tested (f .header .inputs) given) (room f)) ≡ refused n → 1 ≤ n
+      by-formula (refused m) u e = let same : m ≡ n = cc in rw same at (numbered m u)
+      by-formula (value f) u e = by-tested f (K .tested (f .header .inputs) given) refl e
+
+  pub job-numbered : {n k : ℕ} → refuses n k ≡ said (job K a given work output) → 1 ≤ n
+  unfolding job
+  job-numbered {n} {k} e = by-job (job K a given work output) refl e
+    where
+      first-refused : (s : Answer (Started K)) {m : ℕ} → if-started K s ≡ refused-first m → s ≡ refused m
+      first-refused (refused i) u = cc
+      first-refused (value st) u = absurd (ended (started-run K st) u)
+        where
+          ended : {m : ℕ} (w : Walk (K .Value)) → walk-ended (K .nothing) (st .formula) w ≡ refused-first m → ⊥
+          ended (finished vs) u = let z : _≡_ {A = ℕ} 0 1 = cc in omega arith
+          ended (stopped i vs) u = let z : _≡_ {A = ℕ} 0 1 = cc in omega arith
+
+      by-job : (j : Result (K .Value)) → job K a given work output ≡ j → refuses n k ≡ said j → 1 ≤ n
+      by-job (refused-first m) u e = omega (arith, start-numbered (first-refused (start K a given work output) u), ap first-said e)
+      by-job (stopped-at i m vs) u e = omega (arith, stopped-late law a given work output u, ap first-said e)
+      by-job (done vs os) u e = absurd (never-both (sym e))
+
+-- what a refusal leaves
+nothing-written : {K : Kind} → Lawful K → {vs : List (K .Value)} (was now : K .Lists) → vs ≡ [] → K .Holds vs was now → now ≡ was
+nothing-written law was now e h = law .holds-one [] was now was (rw e at h) (law .holds-none was)
+
+module _ {K : Kind} (law : Lawful K) {a : Answer Formula} {given : K .Readings} {old new : Lent K} {q : Refusal} {k : ℕ} where
+  -- "a refusal writes no output"
+  pub refused-keeps-outputs : Kept K a given old new (Refused q k) → new .output ≡ old .output
+  refused-keeps-outputs p = nothing-written law (old .output) (new .output) (refused-outputs (lent-job K a given old) (p .says)) (p .gives)
+
+  -- "On refusals 1 to 10 all lent memory keeps its contents."
+  pub refused-early-keeps-all : Kept K a given old new (Refused q k) → refusal-number q ≤ 10 → new ≡ old
+  refused-early-keeps-all p l =
+      ap₂ (λ (w o : K .Lists). record { work = w; output = o })
+      (nothing-written law (old .work) (new .work) (by-job (lent-job K a given old) refl (p .says)) (p .works))
+      (refused-keeps-outputs p)
+    where
+      by-job : (j : Result (K .Value)) → lent-job K a given old ≡ j → refuses (refusal-number q) k ≡ said j → work-of j ≡ []
+      by-job (refused-first n) u e = refl
+      by-job (stopped-at i n vs) u e =
+          absurd (omega (arith, stopped-late law a given (K .room (old .work)) (K .room (old .output)) u, ap first-said e))
+      by-job (done vs os) u e = absurd (never-both (sym e))

@@ -6,3 +6,4 @@ pub mod Covering
 pub mod Fitting
 pub mod Lawful
 pub mod Jobs
+pub mod GivenInRuns

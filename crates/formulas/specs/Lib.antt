@@ -5,4 +5,5 @@ pub mod Run
 pub mod Readings
 pub mod Kinds
 pub mod Job
+pub mod GivenInRuns
 pub mod ExactRun

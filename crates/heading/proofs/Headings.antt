@@ -15,17 +15,16 @@ use Rattle.bits.specs.Fields.{Ahead}
 use Rattle.formulas.specs.Formula.{InLimits}
 use Rattle.packed.specs.Items.{FieldKind, version, scale, inputs, instructions, outputs, width, permitted, complaint, entry}
 use Rattle.packed.specs.Format.{header}
-use Rattle.packed.specs.ReaderAnswers.{field-at}
 use Rattle.packed.specs.Given.{Wrong}
 use Rattle.packed.proofs.FieldIn.{between}
-use Rattle.packed.proofs.Fetched.{missing, wrong, fine}
+use Rattle.heading.proofs.Fetched.{missing, wrong, fine}
 use Rattle.packed.proofs.GivenExactly.{wrong-not-permitted}
-use Rattle.heading.specs.HeaderAnswers.{header-of, HeaderRefused, HeaderWhole}
+use Rattle.heading.specs.HeaderAnswers.{field-at, header-of, HeaderRefused, HeaderWhole}
 
 abbrev first-bit : Cursor
 first-bit = record { at = 0 }
 
-module _ (s : List ℕ) (x : ℕ) (ahead : Ahead (bits s) x) where
+module _ (s : List ℕ) (x : ℕ) (ahead : Ahead 57 (bits s) x) where
   -- the field of kind k that starts o bits on is not there, or lies within the first n bytes
   cut-off : (o : ℕ) (k : FieldKind) → 1 ≤ width k → length s < (0 + (o + width k + 7)) / 8
       → entry k (drop o (bits s)) ≡ refuse refusal.Ended

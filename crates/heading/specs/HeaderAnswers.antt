@@ -1,7 +1,8 @@
 -- What passing the header gives, over the bytes that were read.
 use mathlib.Core.Path.{_≡_}
 use mathlib.Core.List.{List}
-use Prim.Native.Nat.{ℕ}
+use Prim.Native.Nat.{ℕ, _+_, _-_, _*_, _/_, _%_, _^_, _≤_}
+use lib.ListN.{length}
 use Rattle.refusals.specs.declared.Refusal.{Refusal}
 use Rattle.refusals.specs.Answer.{value, refuse}
 use Rattle.bits.specs.declared.Cursor.{Cursor}
@@ -11,7 +12,6 @@ use Rattle.formulas.specs.declared.Header.{Header}
 use Rattle.formulas.specs.Formula.{InLimits}
 use Rattle.packed.specs.Items.{read}
 use Rattle.packed.specs.Format.{header}
-use Rattle.packed.specs.ReaderAnswers.{field-at}
 use Rattle.heading.specs.declared.Passed.{Passed}
 use Rattle.heading.specs.declared.Passed.the-variants as passed
 
@@ -19,6 +19,14 @@ use Rattle.heading.specs.declared.Passed.the-variants as passed
 pub record WellHeaded (h : Header) (c : Cursor) : Type 0 where
   pub limits : InLimits h
   pub past : c .at ≡ 32
+
+-- the field of w bits that starts o bits on in 64
+abbrev pub field-at : ℕ → ℕ → ℕ → ℕ
+field-at x o w = x / 2 ^ (64 - (o + w)) % 2 ^ w
+
+-- w bits are there from a cursor on
+pub record There (s : List ℕ) (c : Cursor) (w : ℕ) : Type 0 where
+  pub is : c .at + w ≤ 8 * length s
 
 -- the header that 64 bits begin with
 abbrev pub header-of : ℕ → Header

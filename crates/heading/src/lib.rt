@@ -15,7 +15,7 @@ pub enum Passed {
 
 // Each field must be there, and then be permitted.
 pub fn pass(s: &[u8], x: u64) -> Passed
-    requires { ⌜ Ahead (bits (now s)) x ⌝ }
+    requires { ⌜ Ahead 57 (bits (now s)) x ⌝ }
     ensures { λ r. ⌜ HeaderPassed (now (s .entry)) x r ⌝ }
 {
     let long = s.len();

@@ -13,14 +13,14 @@ use mir.Syntax.{w8}
 use mir.Val.{Fits}
 use Rattle.whole.proofs.Cases.{by-case}
 use Rattle.parsing.specs.declared.Gathered.the-variants.{Got, Malformed}
-use Rattle.parsing.specs.Lines.{some-then}
+use Rattle.parsing.specs.Lines.{some-then, until-none}
 use Rattle.parsing.specs.ParsingAnswers.{Gathers}
-use Rattle.parsing.proofs.Ranges.{in-range, below-range, above-range, range-top}
+use Rattle.parsing.proofs.Ranges.{in-range, below-range, above-range, range-ends}
 use Rattle.parsing.proofs.Gathering.{first-then, Gathering}
 use Rattle.parsing.proofs.Gathering.{gathered-room, gathered-one, gathered-all, gathered-malformed}
 use Rattle.hex.specs.declared.Digit.{Digit}
 use Rattle.hex.specs.declared.Digit.the-variants as Digit
-use Rattle.hex.specs.Hex.{hex-digit, hex-byte, hex, digit-answer}
+use Rattle.hex.specs.Hex.{hex-digit, hex-byte, hex, hex-front, digit-answer}
 
 -- a digit by the tests of its byte
 module _ (b : ℕ) where
@@ -47,10 +47,10 @@ module _ (b : ℕ) where
   digit-high k l = digit-is (above-range 48 57 b k) (above-range 97 102 b l)
 
   small : (t u : Bool) → leb 48 b && leb b 57 ≡ t → leb 97 b && leb b 102 ≡ u → {x : ℕ} → by-tests t u ≡ some x → x ≤ 15
-  small true u d e k = let z : b - 48 ≡ _ = Option·some-injective (b - 48) _ k in omega (arith, z, range-top 48 57 b d)
+  small true u d e k = let z : b - 48 ≡ _ = Option·some-injective (b - 48) _ k in omega (arith, z, range-ends 48 57 b d)
   small false true d e k =
       let z : b - 87 ≡ _ = Option·some-injective (b - 87) _ k in
-      omega (arith, z, range-top 97 102 b e)
+      omega (arith, z, range-ends 97 102 b e)
   small false false d e k = absurd (Option·none-ne-some _ k)
 
   digit-small : {r : Digit} {x : ℕ} → r ≡ Digit.Got x → digit-answer r ≡ hex-digit b → x ≤ 15
@@ -83,33 +83,45 @@ module _ (a b : ℕ) {r : Digit} where
       byte-is k f = sym (ap₂ paired (by-case digit-answer d e) (by-case digit-answer f k))
 
 -- bytes read pair by pair
-module _ {s old new : List ℕ} {at n : ℕ} (g : Gathering hex s at old new n) where
-  pub hex-ended : length s ≤ at → Gathers (hex s) old new (Got n)
+module _ {s old new : List ℕ} {at n : ℕ} (g : Gathering hex hex-front s at old new n) where
+  pub hex-ended : length s ≤ at → Gathers (hex s) (hex-front s) old new (Got n)
   unfolding hex
   hex-ended l = gathered-all g refl l
 
   module _ (more : at < length s) where
-    pub hex-odd : length s - at < 2 → Gathers (hex s) old new Malformed
-    unfolding hex
+    pub hex-odd : length s - at < 2 → Gathers (hex s) (hex-front s) old new Malformed
+    unfolding hex hex-front
     hex-odd k =
         let end : length s ≤ suc at = omega arith in
-        gathered-malformed g (ap hex (drop-cons s at 0 more ∙ ap (λ r. getD s at 0 ∷ r) (drop-of-length-le s end)))
+        let last = drop-cons s at 0 more ∙ ap (λ r. getD s at 0 ∷ r) (drop-of-length-le s end) in
+        gathered-malformed g (ap hex last) (ap hex-front last)
 
     module _ (two : 2 ≤ length s - at) (r : Digit)
         (d : digit-answer r ≡ hex-byte (getD s at 0) (getD s (at + 1) 0)) where
+      two-more : drop at s ≡ getD s at 0 ∷ getD s (at + 1) 0 ∷ drop (at + 2) s
+      two-more =
+          let l : at + 1 < length s = omega arith in
+          let z : suc (at + 1) ≡ at + 2 = omega arith in
+          drop-cons s at 0 more ∙ ap (λ q. getD s at 0 ∷ q) (ap (λ k. drop k s) (sym (add-one at))
+          ∙ drop-cons s (at + 1) 0 l ∙ ap (λ k. getD s (at + 1) 0 ∷ drop k s) z)
+
       pair : (r' : Digit) → r ≡ r' → hex (drop at s) ≡ first-then (digit-answer r') (hex (drop (at + 2) s))
       unfolding hex
       pair r' e =
-          let l : at + 1 < length s = omega arith in
-          let z : suc (at + 1) ≡ at + 2 = omega arith in
-          ap hex (drop-cons s at 0 more ∙ ap (λ q. getD s at 0 ∷ q) (ap (λ k. drop k s) (sym (add-one at))
-          ∙ drop-cons s (at + 1) 0 l ∙ ap (λ k. getD s (at + 1) 0 ∷ drop k s) z))
-          ∙ ap (λ (o : Option ℕ). first-then o (hex (drop (at + 2) s))) (by-case digit-answer d e)
+          ap hex two-more ∙ ap (λ (o : Option ℕ). first-then o (hex (drop (at + 2) s))) (by-case digit-answer d e)
 
-      pub hex-bad : r ≡ Digit.Malformed → Gathers (hex s) old new Malformed
-      hex-bad e = gathered-malformed g (pair Digit.Malformed e)
+      pair-front : (r' : Digit) → r ≡ r'
+          → hex-front (drop at s) ≡ until-none (digit-answer r') (hex-front (drop (at + 2) s))
+      unfolding hex-front
+      pair-front r' e =
+          ap hex-front two-more
+          ∙ ap (λ (o : Option ℕ). until-none o (hex-front (drop (at + 2) s))) (by-case digit-answer d e)
+
+      pub hex-bad : r ≡ Digit.Malformed → Gathers (hex s) (hex-front s) old new Malformed
+      hex-bad e = gathered-malformed g (pair Digit.Malformed e) (pair-front Digit.Malformed e)
 
       pub hex-one : {x : ℕ} → r ≡ Digit.Got x → length s ≤ length old + length old
-          → Gathering hex s (at + 2) old (set new n x) (n + 1)
+          → Gathering hex hex-front s (at + 2) old (set new n x) (n + 1)
       hex-one {x} e room =
           gathered-one g x (gathered-room g more room) (omega arith) (omega arith) (pair (Digit.Got x) e)
+          (pair-front (Digit.Got x) e)

@@ -4,7 +4,7 @@ use mathlib.Core.List.{List, [], _∷_}
 use mathlib.Core.Option.{Option, none, some}
 use Prim.Native.Nat.{ℕ, _+_, _*_, _-_}
 use lib.Dec.{leb}
-use Rattle.parsing.specs.Lines.{some-then}
+use Rattle.parsing.specs.Lines.{some-then, until-none}
 use Rattle.hex.specs.declared.Digit.{Digit}
 use Rattle.hex.specs.declared.Digit.the-variants as digit
 
@@ -20,6 +20,12 @@ unfoldable pub hex : List ℕ → Option (List ℕ)
 hex [] = some []
 hex (a ∷ []) = none
 hex (a ∷ b ∷ s) = some-then (hex-byte a b) (λ x. some-then (hex s) (λ bytes. some (x ∷ bytes)))
+
+-- the bytes of the pairs before the first that is none
+unfoldable pub hex-front : List ℕ → List ℕ
+hex-front [] = []
+hex-front (a ∷ []) = []
+hex-front (a ∷ b ∷ s) = until-none (hex-byte a b) (hex-front s)
 
 -- what each case of the code's answer stands for
 abbrev pub digit-answer : Digit → Option ℕ

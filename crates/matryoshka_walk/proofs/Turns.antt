@@ -22,7 +22,9 @@ use Rattle.formulas.specs.declared.Header.{Header}
 use Rattle.formulas.specs.declared.Instruction.{Instruction}
 use Rattle.formulas.specs.Kinds.{matryoshka-kind}
 use Rattle.formulas.proofs.Lawful.{matryoshka-lawful, Room, matryoshka-room}
-use Rattle.packed.specs.Walk.{Decodes}
+use Rattle.packed.specs.declared.loaded.Loaded.{Loaded}
+use Rattle.packed.specs.Loading.{Loads}
+use Rattle.packed.specs.Walk.{DecodesFrom}
 use Rattle.rounding.proofs.Linear.{middle-size}
 use Rattle.rounding.proofs.Products.{kept}
 use Rattle.walks.specs.declared.Walked.the-variants.{Stopped}
@@ -83,16 +85,17 @@ module _ {s : List ℕ} {h : Header} {c : Cursor} {k : ℕ} {cs₀ cs : List ℤ
     pub margins-inside : h .inputs + k < length rs
     margins-inside = omega (arith, inside .for-margins)
 
-    module _ {i : Instruction} {e : Cursor} (decodes : Decodes s c i e) {r : MatryoshkaStep}
+    module _ {l : Loaded} (loads : Loads s c l) {i : Instruction} {e : Cursor}
+        (from : DecodesFrom s l i e) {r : MatryoshkaStep}
         (steps : Stepped matryoshka-kind (h .scale) i (h .inputs + k) (matryoshka-lists cs ss rs) (matryoshka-answer r)) where
       pub matryoshki-stop : {q : Refusal} → r ≡ Refused q
           → Walks matryoshka-kind s h (matryoshka-lists cs₀ ss₀ rs₀) (matryoshka-lists cs ss rs) (Stopped q k)
-      matryoshki-stop t = walking-stops matryoshka-lawful w more decodes steps (ap matryoshka-answer t)
+      matryoshki-stop t = walking-stops matryoshka-lawful w more loads from steps (ap matryoshka-answer t)
 
       pub matryoshki-go-on : {v : Matryoshka} → r ≡ Value v → Walking matryoshka-kind s h e (k + 1) (matryoshka-lists cs₀ ss₀ rs₀)
           (matryoshka-lists (set cs (h .inputs + k) (back (v .middle))) (set ss (h .inputs + k) (v .stray)) (set rs (h .inputs + k) (v .margin)))
       matryoshki-go-on {v} t =
-          walking-more matryoshka-lawful w more decodes steps (ap matryoshka-answer t)
+          walking-more matryoshka-lawful w more loads from steps (ap matryoshka-answer t)
           (λ holds many legal.
           subst (λ (z : ℤ). HoldMatryoshki (w .values ++ v ∷ []) (matryoshka-lists cs₀ ss₀ rs₀)
           (matryoshka-lists (set cs (h .inputs + k) z) (set ss (h .inputs + k) (v .stray)) (set rs (h .inputs + k) (v .margin))))

@@ -4,10 +4,10 @@ ghost use Rattle.rules.specs.Lists.{matryoshka-lists};
 ghost use Rattle.formulas.specs.Kinds.{matryoshka-kind};
 ghost use Rattle.walks.specs.Walks.{Named, Operand, Steppable, Stepped, Walkable, Walks};
 use bits::Cursor;
-use bits::ahead;
 use formulas::Header;
 use formulas::Instruction;
 use matryoshki::steps;
+use packed::loaded::load;
 use packed::walking::decode_ahead;
 use rules::Matryoshka;
 use rules::MatryoshkaStep;
@@ -81,7 +81,7 @@ pub fn walk(
             break Walked::Finished(at);
         }
         let made = h.inputs + k;
-        let d = decode_ahead(s, ahead(s, at), at);
+        let d = decode_ahead(s, load(s, at));
         let i = d.instruction;
         let next = d.next;
         match step(h.scale, i, middles, strays, margins, made) {

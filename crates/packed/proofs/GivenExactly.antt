@@ -10,18 +10,26 @@ use borrow.Author.Tests.{leb-true, leb-false, ltb-false, eqb-true, eq-eqb}
 use lib.ListN.{length, take}
 use Rattle.whole.proofs.Cases.{never}
 use Rattle.refusals.specs.Refusals.{refusal-number}
+use Rattle.refusals.specs.Said.{refuses}
 use Rattle.refusals.specs.Answer.{Answer, value, refused, refuse}
-use Rattle.refusals.proofs.Answers.{no-value, then-value, then-refused}
+use Rattle.refusals.proofs.Answers.{no-value, refused-same, then-value, then-refused}
 use Rattle.bits.specs.Bits.{bits, number}
 use Rattle.bits.specs.Reader.{Read}
+use Rattle.bits.proofs.Digits.{bits-are}
 use Rattle.bits.proofs.Take.{field-got, field-ended}
 use Rattle.packed.specs.Items.{FieldKind, version, scale, inputs, instructions, outputs, code, constant, operand}
 use Rattle.packed.specs.Items.{width, permitted, complaint, from-below, entry, Form, done, ask, read}
 use Rattle.packed.specs.Format.{is-padding}
 use Rattle.formulas.specs.Formula.{Formula}
+use Rattle.formulas.specs.Kinds.{Kind}
+use Rattle.formulas.specs.Job.{job, said, Lent, lent-job}
+use Rattle.formulas.specs.GivenInRuns.{Terms, GivenInRun}
+use Rattle.formulas.proofs.Lawful.{Lawful}
+use Rattle.formulas.proofs.GivenInRuns.{Refusing, refused-given-in-run, job-last}
 use Rattle.packed.specs.Meaning.{whole, formula, checked}
 use Rattle.packed.specs.Given.{Comes, here, later, EndsInside, Wrong, HoldsWrong, Meets, BadlyPadded, Given, one}
 use Rattle.packed.specs.Given.{two, three, four, five, six, seven, eight}
+use Rattle.packed.proofs.PaddingGiven.{left-are, not-padding-false, false-not-padding}
 use Rattle.packed.proofs.FieldIn.{test-cut, test-failed, test-passed, below-out, above-out}
 
 -- ---- a number is wrong exactly where it is not permitted
@@ -116,9 +124,6 @@ data Faulty {A : Type 0} (f : Form A) (bs : List ℕ) : ℕ → Type 0 where
   ends : {k : FieldKind} {cs : List ℕ} → Comes f bs k cs → EndsInside k cs → Faulty f bs 1
   holds : (k : FieldKind) {cs : List ℕ} → Comes f bs k cs → HoldsWrong k cs → Faulty f bs (refusal-number (complaint k))
 
-refused-same : {A : Type 0} {n m : ℕ} → _≡_ {A = Answer A} (refused n) (refused m) → n ≡ m
-refused-same e = cc
-
 faulty : {A : Type 0} (f : Form A) (bs : List ℕ) {n : ℕ} → read f bs ≡ refused n → Faulty f bs n
 faulty (done a) bs e = absurd (no-value (sym e))
 faulty {A} (ask k f) bs {n} e = by-found (found k bs) (λ m cs. faulty (f m) cs)
@@ -155,7 +160,7 @@ module _ (s : List ℕ) where
 
   badly-padded : BadlyPadded s → checked s ≡ refused 8
   unfolding checked formula
-  badly-padded b = rw (b .reads, b .not-padding)
+  badly-padded b = rw (b .reads, not-padding-false (b .all .left) (b .not-padding))
 
   meets-wrong : (k : FieldKind) → Meets s k HoldsWrong → checked s ≡ refuse (complaint k)
   meets-wrong k m = unread (comes-refused (m .comes) (entry-wrong k (m .there) (m .holds)))
@@ -198,9 +203,44 @@ module _ (s : List ℕ) where
           → Given s n
       by-padding x u true p = absurd (no-value (sym e ∙ accepted u p))
       by-padding x u false p =
-          let b : BadlyPadded s = record { all = x; reads = u; not-padding = p } in
+          let n = false-not-padding (x .left) (left-are whole (bits-are s) u) p in
+          let b : BadlyPadded s = record { all = x; reads = u; not-padding = n } in
           subst (Given s) (refused-same (sym (badly-padded b) ∙ e)) (eight b)
 
       by-read : (a : Answer (Read Formula)) → read whole (bits s) ≡ a → Given s n
       by-read (value x) u = by-padding x u (is-padding (x .left)) refl
       by-read (refused m) u = of-faulty (faulty whole (bits s) (u ∙ ap refused (refused-same (sym (unread u) ∙ e))))
+
+-- ---- what a job on these bytes gives
+
+given-between : {s : List ℕ} {n : ℕ} → Given s n → (1 ≤ n) × (n ≤ 8)
+given-between (one k m) = (omega arith, omega arith)
+given-between (two m) = (omega arith, omega arith)
+given-between (three m) = (omega arith, omega arith)
+given-between (four m) = (omega arith, omega arith)
+given-between (five m) = (omega arith, omega arith)
+given-between (six v m) = (omega arith, omega arith)
+given-between (seven m) = (omega arith, omega arith)
+given-between (eight b) = (omega arith, omega arith)
+
+-- reading refuses by 1 to 8
+module _ (s : List ℕ) (n : ℕ) (e : formula s ≡ refused n) where
+  unread-between : (1 ≤ n) × (n ≤ 8)
+  unfolding checked
+  unread-between = given-between (refused-given s (then-refused (λ f. value (f .header)) e))
+
+  pub formula-numbered : 1 ≤ n
+  formula-numbered = unread-between .0
+
+  unread-few : n ≤ 8
+  unread-few = unread-between .1
+
+module _ {K : Kind} {T : Terms K} (law : Lawful K) (refusing : Refusing K T) (s : List ℕ) (given : K .Readings) where
+  -- 10 and 11 are given exactly when the table says; `given-in-run-refused` is the other way
+  pub run-refused-given : (lent : Lent K) {n k : ℕ} → 10 ≤ n → said (lent-job K (formula s) given lent) ≡ refuses n k
+      → GivenInRun K T (formula s) given lent n k
+  run-refused-given lent l e = refused-given-in-run law refusing (formula s) given lent (unread-few s) l e
+
+  -- a job refuses by 1 to 11
+  pub job-numbers : (work output : ℕ) {n k : ℕ} → said (job K (formula s) given work output) ≡ refuses n k → n ≤ 11
+  job-numbers work output e = job-last law refusing (formula s) given work output (unread-few s) e

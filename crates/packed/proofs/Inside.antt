@@ -1,263 +1,338 @@
--- Reading an instruction out of what is ahead, and whether the bytes end inside it. Assumes nothing.
-use mathlib.Core.Path.{_≡_, refl, sym, _∙_, ap}
-use mathlib.Core.Bool.{Bool, true, false, not, cond}
+-- Reading an instruction off a loaded cursor, and whether the bytes end inside it. Assumes nothing.
+use mathlib.Core.Path.{_≡_, refl, sym, _∙_, ap, subst}
+use mathlib.Core.Bool.{Bool, true, false, not}
 use mathlib.Core.List.{List}
-use Prim.Native.Nat.{ℕ, _+_, _/_, _^_, _≤_, _<_, zero-le}
-use native.Mathlib.Nat.{mod-lt}
+use Prim.Native.Nat.{ℕ, _+_, _*_, _/_, _^_, _≤_, _<_, zero-le}
 use native.Mathlib.Omega.{arith}
 use lib.Dec.{ltb, eqb, lit≤}
 use lib.IntN.{ℤ}
-use lib.Pow.{pow-pos}
-use borrow.Author.Tests.{eq-eqb, ne-eqb, eqb-true, eqb-false, lt-ltb, le-ltb}
-use lib.ListN.{length, drop}
-use lib.Seq.{drop-drop}
+use lib.ListN.{length}
+use lib.Pow.{shr-lt}
+use borrow.Author.Tests.{eq-eqb, ne-eqb, eqb-true, eqb-false, ltb-true, ltb-false}
 use Rattle.whole.proofs.Machine.{back}
 use Rattle.refusals.specs.declared.Refusal.{Refusal}
 use Rattle.refusals.specs.declared.Refusal.the-variants as refusal
 use Rattle.refusals.specs.Answer.{value, refused, refuse}
 use Rattle.bits.specs.declared.Cursor.{Cursor}
-use Rattle.bits.specs.Bits.{bits}
-use Rattle.bits.specs.Fields.{before, Ahead}
 use Rattle.formulas.specs.declared.Instruction.{Instruction}
-use Rattle.formulas.specs.declared.Instruction.the-variants.{Constant, Negate}
+use Rattle.formulas.specs.declared.Instruction.the-variants.{Constant, Negate, Add, Subtract, Multiply}
+use Rattle.packed.specs.declared.InstructionRead.{InstructionRead}
 use Rattle.packed.specs.declared.InstructionRead.the-variants.{Got, Refused}
-use Rattle.packed.specs.Items.{code, constant, operand, entry}
-use Rattle.packed.specs.Items.{read}
-use Rattle.packed.specs.Format.{twos-complement, two-operands, by-code, instruction}
-use Rattle.packed.specs.ReaderAnswers.{combined, Instructed, field-at, There, Enough, asked-of, CutShort}
+use Rattle.packed.specs.declared.loaded.Loaded.{Loaded}
+use Rattle.packed.specs.declared.loaded.Taken.{Taken}
+use Rattle.packed.specs.Items.{code, constant, operand, entry, read}
+use Rattle.packed.specs.Format.{twos-complement, two-operands, by-code, instruction, wide}
+use Rattle.packed.specs.Loading.{place-of, left, taken, Carries, Loads}
+use Rattle.packed.specs.ReaderAnswers.{combined, Instructed, InstructedFrom, Reaches, Enough, CutShort}
+use Rattle.packed.specs.ReaderAnswers.{code-taken, constant-taken, first-taken, second-taken}
 use Rattle.packed.proofs.FieldIn.{above-out, between}
-use Rattle.packed.proofs.Fetched.{missing, wrong, fine}
 use Rattle.packed.proofs.Instructions.{twos-complement-back, by-code-two}
+use Rattle.packed.proofs.Taking.{carries-on, missing, wrong, fine}
 
--- below 2^61 the code is 0, from there on it is not
-pub no-code : {x : ℕ} → x < 2 ^ 61 → field-at x 0 3 ≡ 0
-no-code l = omega arith
+-- what is made of two operands takes as many bits whatever the code
+pub combined-wide : (n i j : ℕ) → wide (combined n i j) ≡ 23
+combined-wide n i j = by-tests (eqb n 2) (eqb n 3) refl refl
+  where
+    by-tests : (a b : Bool) → eqb n 2 ≡ a → eqb n 3 ≡ b → wide (combined n i j) ≡ 23
+    by-tests true b d e = rw d refl
+    by-tests false true d e = rw (d, e) refl
+    by-tests false false d e = rw (d, e) refl
 
-pub some-code : {x : ℕ} → 2 ^ 61 ≤ x → x < 2 ^ 64 → field-at x 0 3 ≡ 0 → ⊥
-some-code l m e = omega arith
+-- ---- the cursor past each field carries what is behind it
 
--- so many bits, by the code
-pub asked-constant : (x : ℕ) → x < 2 ^ 61 → asked-of x ≡ 35
-asked-constant x l = rw (lt-ltb x (2 ^ 61) l)
+module _ {s : List ℕ} {l : Loaded} (c : Carries s l 57) where
+  pub past-code : Carries s (code-taken l .rest) 54
+  past-code = carries-on s l 3 54 c (lit≤ tt)
 
-pub asked-one : (x : ℕ) → 2 ^ 61 ≤ x → x < 2 ^ 62 → asked-of x ≡ 13
-asked-one x l m = rw (le-ltb x (2 ^ 61) l, lt-ltb x (2 ^ 62) m)
-
-pub asked-two : (x : ℕ) → 2 ^ 62 ≤ x → asked-of x ≡ 23
-asked-two x l = rw (le-ltb x (2 ^ 61) (omega arith), le-ltb x (2 ^ 62) l)
+  pub past-first : Carries s (first-taken l .rest) 44
+  past-first = carries-on s (code-taken l .rest) 10 44 past-code (lit≤ tt)
 
 -- a constant as the machine keeps it
-pub constant-kept : (x : ℕ) {z : ℤ} → z ≡ twos-complement (field-at x 3 32) → back z ≡ twos-complement (field-at x 3 32)
-constant-kept x e = twos-complement-back (field-at x 3 32) (mod-lt (x / 2 ^ 29) (pow-pos 32)) e
+pub constant-kept : {s : List ℕ} {l : Loaded} {z : ℤ} → Carries s l 57 → z ≡ twos-complement (constant-taken l .field)
+    → back z ≡ twos-complement (constant-taken l .field)
+constant-kept c e = twos-complement-back _ (shr-lt 32 32 (past-code c .small)) e
 
-module _ (s : List ℕ) (v : ℕ) (c : Cursor) (x : ℕ) (ahead : Ahead (before s c) x) where
-  abbrev bs : List ℕ
-  bs = before s c
+module _ (s : List ℕ) (v : ℕ) (l : Loaded) (carries : Carries s l 57) where
+  refuses : {r : Refusal} → read (instruction v) (left s l) ≡ refuse r → InstructedFrom s v l (Refused r)
+  refuses e = record { is = record { answers = sym e; past = tt } }
 
-  refuses : {r : Refusal} → read (instruction v) bs ≡ refuse r → Instructed s (instruction v) 35 c (Refused r)
-  refuses e = record { answers = sym e; past = tt }
-
-  gives : {i : Instruction} (w : ℕ) → w ≤ 35 → read (instruction v) bs ≡ value (record { got = i; left = drop w bs })
-      → Instructed s (instruction v) 35 c (Got i (record { at = c .at + w }))
-  gives {i} w l e =
-      record {
-        answers = sym (e ∙ ap (λ l. value (record { got = i; left = l })) (drop-drop w (c .at) (bits s)));
-        past = omega arith;
-      }
+  gives : {i : Instruction} (d : Loaded) {p : Cursor} → p ≡ place-of d → d .at ≡ l .at + wide i
+      → read (instruction v) (left s l) ≡ value (record { got = i; left = left s d }) → InstructedFrom s v l (Got i p)
+  gives d q w e = rw q (record { is = record { answers = sym e; past = w } })
 
   -- ---- the code
 
-  coded : There s c 3 → field-at x 0 3 < 5 → read (instruction v) bs ≡ read (by-code v (field-at x 0 3)) (drop 3 bs)
-  unfolding instruction
-  coded t l =
-      rw (fine s c x ahead 0 code (lit≤ tt) (lit≤ tt) t (between 0 5 _ zero-le l))
+  module _ (t : Reaches s (code-taken l .rest)) where
+    coded : code-taken l .field < 5 → read (instruction v) (left s l) ≡ read (by-code v (code-taken l .field)) (left s (code-taken l .rest))
+    unfolding instruction
+    coded m = rw (fine s l code (lit≤ tt) 54 carries (lit≤ tt) t (between 0 5 _ zero-le m))
 
-  coded-as : There s c 3 → (n : ℕ) → n < 5 → field-at x 0 3 ≡ n → read (instruction v) bs ≡ read (by-code v n) (drop 3 bs)
-  coded-as t n l e = coded t (omega arith) ∙ ap (λ m. read (by-code v m) (drop 3 bs)) e
+    coded-as : (n : ℕ) → n < 5 → code-taken l .field ≡ n
+        → read (instruction v) (left s l) ≡ read (by-code v n) (left s (code-taken l .rest))
+    coded-as n m e = coded (omega arith) ∙ ap (λ m. read (by-code v m) (left s (code-taken l .rest))) e
 
-  two-coded : There s c 3 → field-at x 0 3 < 5 → (field-at x 0 3 ≡ 0 → ⊥) → (field-at x 0 3 ≡ 1 → ⊥)
-      → read (instruction v) bs ≡ read (two-operands (combined (field-at x 0 3)) v) (drop 3 bs)
-  two-coded t l some two = coded t l ∙ by-code-two v (field-at x 0 3) (drop 3 bs) some two
+    module _ (m : code-taken l .field < 5) (some : code-taken l .field ≡ 0 → ⊥) where
+      two-coded : (code-taken l .field ≡ 1 → ⊥) → read (instruction v) (left s l)
+          ≡ read (two-operands (combined (code-taken l .field)) v) (left s (code-taken l .rest))
+      two-coded two = coded m ∙ by-code-two v (code-taken l .field) (left s (code-taken l .rest)) some two
 
-  -- ---- an operand, the one that starts o bits on
+      -- whatever the code is, its first operand is refused
+      first-operand : {n : ℕ} → entry (operand v) (left s (code-taken l .rest)) ≡ refused n
+          → read (instruction v) (left s l) ≡ refused n
+      unfolding by-code
+      first-operand {n} e = by-test (eqb (code-taken l .field) 1) refl
+        where
+          by-test : (b : Bool) → eqb (code-taken l .field) 1 ≡ b → read (instruction v) (left s l) ≡ refused n
+          by-test true u = coded-as 1 (lit≤ tt) (eqb-true (code-taken l .field) 1 u) ∙ rw e
+          by-test false u = two-coded (eqb-false (code-taken l .field) 1 u) ∙ rw e
 
-  named : (o : ℕ) → o + 10 ≤ 57 → There s c (o + 10) → field-at x o 10 < v
-      → entry (operand v) (drop o bs) ≡ value (record { got = field-at x o 10; left = drop (o + 10) bs })
-  named o near t l = fine s c x ahead o (operand v) (lit≤ tt) near t (between 0 v _ zero-le l)
+  -- ---- the operands
 
-  unnamed : (o : ℕ) → o + 10 ≤ 57 → There s c (o + 10) → v ≤ field-at x o 10
-      → entry (operand v) (drop o bs) ≡ refuse refusal.Operand
-  unnamed o near t l = wrong s c x ahead o (operand v) (lit≤ tt) near t (above-out 0 v _ l)
+  first-fine : Reaches s (first-taken l .rest) → first-taken l .field < v → entry (operand v) (left s (code-taken l .rest))
+      ≡ value (record { got = first-taken l .field; left = left s (first-taken l .rest) })
+  first-fine t m =
+      fine s (code-taken l .rest) (operand v) (lit≤ tt) 44 (past-code carries) (lit≤ tt) t (between 0 v _ zero-le m)
 
-  -- whatever the code is, its first operand is refused
-  first-operand : {n : ℕ} → There s c 3 → field-at x 0 3 < 5 → (field-at x 0 3 ≡ 0 → ⊥)
-      → entry (operand v) (drop 3 bs) ≡ refused n → read (instruction v) bs ≡ refused n
-  unfolding by-code
-  first-operand {n} t l some e = by-test (eqb (field-at x 0 3) 1) refl
-    where
-      by-test : (b : Bool) → eqb (field-at x 0 3) 1 ≡ b → read (instruction v) bs ≡ refused n
-      by-test true u = coded-as t 1 (lit≤ tt) (eqb-true (field-at x 0 3) 1 u) ∙ rw e
-      by-test false u = two-coded t l some (eqb-false (field-at x 0 3) 1 u) ∙ rw e
+  first-wrong : Reaches s (first-taken l .rest) → v ≤ first-taken l .field
+      → entry (operand v) (left s (code-taken l .rest)) ≡ refuse refusal.Operand
+  first-wrong t m =
+      wrong s (code-taken l .rest) (operand v) (lit≤ tt) 44 (past-code carries) (lit≤ tt) t (above-out 0 v _ m)
+
+  second-fine : Reaches s (second-taken l .rest) → second-taken l .field < v → entry (operand v) (left s (first-taken l .rest))
+      ≡ value (record { got = second-taken l .field; left = left s (second-taken l .rest) })
+  second-fine t m =
+      fine s (first-taken l .rest) (operand v) (lit≤ tt) 34 (past-first carries) (lit≤ tt) t (between 0 v _ zero-le m)
+
+  second-wrong : Reaches s (second-taken l .rest) → v ≤ second-taken l .field
+      → entry (operand v) (left s (first-taken l .rest)) ≡ refuse refusal.Operand
+  second-wrong t m =
+      wrong s (first-taken l .rest) (operand v) (lit≤ tt) 34 (past-first carries) (lit≤ tt) t (above-out 0 v _ m)
 
   -- ---- every field is there
 
-  module _ (all : Enough s v c x) where
-    pub unknown-code : 5 ≤ field-at x 0 3 → Instructed s (instruction v) 35 c (Refused refusal.Code)
+  module _ (all : Enough s v l) {c : Taken} (tc : c ≡ taken 3 l) where
+    pub unknown-code : 5 ≤ c .field → InstructedFrom s v l (Refused refusal.Code)
     unfolding instruction
-    unknown-code l = refuses (rw (wrong s c x ahead 0 code (lit≤ tt) (lit≤ tt) (all .code-there) (above-out 0 5 _ l)))
+    unknown-code m =
+        refuses (rw (wrong s l code (lit≤ tt) 54 carries (lit≤ tt) (all .code-there) (above-out 0 5 _ (rw tc at m))))
 
-    pub constant-refused : x < 2 ^ 61 → field-at x 3 32 ≡ 2 ^ 31
-        → Instructed s (instruction v) 35 c (Refused refusal.Constant)
-    unfolding by-code
-    constant-refused l k =
-        let t = all .constant-there (no-code l) in
-        let e = wrong s c x ahead 3 constant (lit≤ tt) (lit≤ tt) t (ap not (eq-eqb _ (2 ^ 31) k)) in
-        refuses (coded-as (all .code-there) 0 (lit≤ tt) (no-code l) ∙ rw e)
+    module _ {k : Taken} (tk : k ≡ taken 32 (c .rest)) (none : c .field ≡ 0) where
+      is-constant : k ≡ constant-taken l
+      is-constant = tk ∙ ap (λ (t : Taken). taken 32 (t .rest)) tc
 
-    pub constant-ahead : {z : ℤ} → x < 2 ^ 61 → (field-at x 3 32 ≡ 2 ^ 31 → ⊥) → z ≡ twos-complement (field-at x 3 32)
-        → Instructed s (instruction v) 35 c (Got (Constant (back z)) (record { at = c .at + 35 }))
-    unfolding by-code
-    constant-ahead l k m =
-        let t = all .constant-there (no-code l) in
-        let e = fine s c x ahead 3 constant (lit≤ tt) (lit≤ tt) t (ap not (ne-eqb _ (2 ^ 31) k)) in
-        rw (constant-kept x m) (gives 35 (lit≤ tt) (coded-as (all .code-there) 0 (lit≤ tt) (no-code l) ∙ rw e))
+      no-code : code-taken l .field ≡ 0
+      no-code = rw tc at none
 
-    pub negate-ahead : field-at x 0 3 ≡ 1 → field-at x 3 10 < v
-        → Instructed s (instruction v) 35 c (Got (Negate (field-at x 3 10)) (record { at = c .at + 13 }))
-    unfolding by-code
-    negate-ahead e l =
-        let t = all .operand-there (omega arith) (omega arith) in
-        gives 13 (lit≤ tt) (coded-as (all .code-there) 1 (lit≤ tt) e ∙ rw (named 3 (lit≤ tt) t l))
+      pub constant-refused : k .field ≡ 2 ^ 31 → InstructedFrom s v l (Refused refusal.Constant)
+      unfolding by-code
+      constant-refused m =
+          let t = all .constant-there no-code in
+          let n : constant-taken l .field ≡ 2 ^ 31 = rw is-constant at m in
+          let e = wrong s (code-taken l .rest) constant (lit≤ tt) 22 (past-code carries) (lit≤ tt) t (ap not (eq-eqb _ (2 ^ 31) n)) in
+          refuses (coded-as (all .code-there) 0 (lit≤ tt) no-code ∙ rw e)
 
-    module _ (low : 2 ^ 61 ≤ x) (high : x < 2 ^ 64) (most : field-at x 0 3 < 5) where
-      pub first-refused : v ≤ field-at x 3 10 → Instructed s (instruction v) 35 c (Refused refusal.Operand)
-      first-refused l =
-          let some : (field-at x 0 3 ≡ 0 → ⊥) = some-code low high in
-          let t = all .operand-there (omega arith) most in
-          refuses (first-operand (all .code-there) most some (unnamed 3 (lit≤ tt) t l))
+      pub constant-ahead : {z : ℤ} {p : Cursor} → (k .field ≡ 2 ^ 31 → ⊥) → z ≡ twos-complement (k .field)
+          → p ≡ place-of (k .rest) → InstructedFrom s v l (Got (Constant (back z)) p)
+      unfolding by-code
+      constant-ahead m e q =
+          let t = all .constant-there no-code in
+          let n : (constant-taken l .field ≡ 2 ^ 31 → ⊥) = rw is-constant at m in
+          let f = fine s (code-taken l .rest) constant (lit≤ tt) 22 (past-code carries) (lit≤ tt) t (ap not (ne-eqb _ (2 ^ 31) n)) in
+          rw (constant-kept carries (rw is-constant at e))
+          (gives (constant-taken l .rest) (rw is-constant at q) (omega arith) (coded-as (all .code-there) 0 (lit≤ tt) no-code ∙ rw f))
 
-      module _ (two : field-at x 0 3 ≡ 1 → ⊥) (first : field-at x 3 10 < v) where
-        both : There s c 23
-        both = let some : (field-at x 0 3 ≡ 0 → ⊥) = some-code low high in all .second-there (omega arith) most first
+    module _ (some : c .field ≡ 0 → ⊥) (most : c .field < 5) {i : Taken} (ti : i ≡ taken 10 (c .rest)) where
+      is-first : i ≡ first-taken l
+      is-first = ti ∙ ap (λ (t : Taken). taken 10 (t .rest)) tc
 
-        one-of-two : There s c 13
-        one-of-two = record { is = omega (arith, both .is) }
+      some-code : code-taken l .field ≡ 0 → ⊥
+      some-code = rw tc at some
 
-        pub second-refused : v ≤ field-at x 13 10 → Instructed s (instruction v) 35 c (Refused refusal.Operand)
-        second-refused l =
-            refuses
-            (two-coded (all .code-there) most (some-code low high) two
-            ∙ rw (named 3 (lit≤ tt) one-of-two first, unnamed 13 (lit≤ tt) both l))
+      most-code : code-taken l .field < 5
+      most-code = rw tc at most
 
-        pub two-ahead : {i : Instruction} → field-at x 13 10 < v → i ≡ combined (field-at x 0 3) (field-at x 3 10) (field-at x 13 10)
-            → Instructed s (instruction v) 35 c (Got i (record { at = c .at + 23 }))
-        two-ahead l e =
-            rw e
-            (gives 23 (lit≤ tt)
-            (two-coded (all .code-there) most (some-code low high) two
-            ∙ rw (named 3 (lit≤ tt) one-of-two first, named 13 (lit≤ tt) both l)))
+      first-there : Reaches s (first-taken l .rest)
+      first-there = let n = some-code in all .operand-there (omega arith) most-code
+
+      pub first-refused : v ≤ i .field → InstructedFrom s v l (Refused refusal.Operand)
+      first-refused m =
+          refuses (first-operand (all .code-there) most-code some-code (first-wrong first-there (rw is-first at m)))
+
+      module _ (named : i .field < v) where
+        first-is : entry (operand v) (left s (code-taken l .rest))
+            ≡ value (record { got = first-taken l .field; left = left s (first-taken l .rest) })
+        first-is = first-fine first-there (rw is-first at named)
+
+        pub negate-ahead : {p : Cursor} → p ≡ place-of (i .rest) → c .field ≡ 1
+            → InstructedFrom s v l (Got (Negate (i .field)) p)
+        unfolding by-code
+        negate-ahead q one =
+            rw is-first
+            (gives (first-taken l .rest) (rw is-first at q) (omega arith) (coded-as (all .code-there) 1 (lit≤ tt) (rw tc at one) ∙ rw first-is))
+
+        module _ (two : c .field ≡ 1 → ⊥) {j : Taken} (tj : j ≡ taken 10 (i .rest)) where
+          is-second : j ≡ second-taken l
+          is-second = tj ∙ ap (λ (t : Taken). taken 10 (t .rest)) is-first
+
+          other-code : code-taken l .field ≡ 1 → ⊥
+          other-code = rw tc at two
+
+          second-there : Reaches s (second-taken l .rest)
+          second-there =
+              let n = some-code in
+              let o = other-code in
+              all .second-there (omega arith) most-code (rw is-first at named)
+
+          pub second-refused : v ≤ j .field → InstructedFrom s v l (Refused refusal.Operand)
+          second-refused m =
+              refuses
+              (two-coded (all .code-there) most-code some-code other-code
+              ∙ rw (first-is, second-wrong second-there (rw is-second at m)))
+
+          second-stands : second-taken l .rest .at
+              ≡ l .at + wide (combined (code-taken l .field) (first-taken l .field) (second-taken l .field))
+          second-stands = omega (arith, combined-wide (code-taken l .field) (first-taken l .field) (second-taken l .field))
+
+          pub two-ahead : {x : Instruction} {p : Cursor} → j .field < v → p ≡ place-of (j .rest)
+              → x ≡ combined (c .field) (i .field) (j .field) → InstructedFrom s v l (Got x p)
+          two-ahead {x} m q e =
+              let x-is : x ≡ combined (code-taken l .field) (first-taken l .field) (second-taken l .field) =
+              rw (tc, is-first, is-second) at e in
+              rw x-is
+              (gives (second-taken l .rest) (rw is-second at q) second-stands
+              (two-coded (all .code-there) most-code some-code other-code
+              ∙ rw (first-is, second-fine second-there (rw is-second at m))))
 
   -- ---- or the bytes end
 
-  pub cut-code : length s < (c .at + 10) / 8 → Instructed s (instruction v) 35 c (Refused refusal.Ended)
-  unfolding instruction
-  cut-code l = refuses (rw (missing s c x ahead 0 code (lit≤ tt) l))
+  module _ {c : Taken} (tc : c ≡ taken 3 l) {b : Bool} (tb : b ≡ ltb (8 * length s) (c .rest .at)) where
+    code-test : b ≡ ltb (8 * length s) (code-taken l .rest .at)
+    code-test = rw tc at tb
 
-  module _ (t : (c .at + 10) / 8 ≤ length s) where
-    there : There s c 3
-    there = record { is = omega arith }
+    pub cut-code : b ≡ true → InstructedFrom s v l (Refused refusal.Ended)
+    unfolding instruction
+    cut-code e = refuses (rw (missing s l code (lit≤ tt) (ltb-true _ _ (sym code-test ∙ e))))
 
-    pub enough-code : 5 ≤ field-at x 0 3 → Enough s v c x
-    enough-code l =
-        record {
-          code-there = there;
-          constant-there = λ e. record { is = omega arith };
-          operand-there = λ e m. record { is = omega arith };
-          second-there = λ e m n. record { is = omega arith };
-        }
+    module _ (e : b ≡ false) where
+      there : Reaches s (code-taken l .rest)
+      there = record { is = ltb-false _ _ (sym code-test ∙ e) }
 
-    module _ {k : ℕ} (asks : k ≡ asked-of x) (ends : length s < (c .at + k + 7) / 8) (high : x < 2 ^ 64) where
-      cut-constant : field-at x 0 3 ≡ 0 → Instructed s (instruction v) 35 c (Refused refusal.Ended)
-      unfolding by-code
-      cut-constant e =
-          let a : asked-of x ≡ 35 = asked-constant x (omega arith) in
-          let l : length s < (c .at + 42) / 8 = omega arith in
-          refuses (coded-as there 0 (lit≤ tt) e ∙ rw (missing s c x ahead 3 constant (lit≤ tt) l))
-
-      cut-negate : field-at x 0 3 ≡ 1 → Instructed s (instruction v) 35 c (Refused refusal.Ended)
-      cut-negate e =
-          let a : asked-of x ≡ 13 = asked-one x (omega arith) (omega arith) in
-          let l : length s < (c .at + 20) / 8 = omega arith in
-          let some : (field-at x 0 3 ≡ 0 → ⊥) = λ z. omega arith in
-          refuses (first-operand there (omega arith) some (missing s c x ahead 3 (operand v) (lit≤ tt) l))
-
-      pub cut-one : field-at x 0 3 < 2 → Instructed s (instruction v) 35 c (Refused refusal.Ended)
-      cut-one l = by-test (eqb (field-at x 0 3) 0) refl
-        where
-          by-test : (b : Bool) → eqb (field-at x 0 3) 0 ≡ b → Instructed s (instruction v) 35 c (Refused refusal.Ended)
-          by-test true u = cut-constant (eqb-true (field-at x 0 3) 0 u)
-          by-test false u =
-              let n : (field-at x 0 3 ≡ 0 → ⊥) = eqb-false (field-at x 0 3) 0 u in
-              cut-negate (omega arith)
-
-      pub cut-second : 2 ≤ field-at x 0 3 → field-at x 0 3 < 5 → (c .at + 20) / 8 ≤ length s → field-at x 3 10 < v
-          → Instructed s (instruction v) 35 c (Refused refusal.Ended)
-      cut-second two most u first =
-          let a : asked-of x ≡ 23 = asked-two x (omega arith) in
-          let l : length s < (c .at + 30) / 8 = omega arith in
-          refuses
-          (two-coded there most (λ z. omega arith) (λ z. omega arith)
-          ∙ rw (
-            named 3 (lit≤ tt) (record { is = omega arith }) first,
-            missing s c x ahead 13 (operand v) (lit≤ tt) l,
-          ))
-
-    module _ (two : 2 ≤ field-at x 0 3) (most : field-at x 0 3 < 5) where
-      pub cut-first : length s < (c .at + 20) / 8 → Instructed s (instruction v) 35 c (Refused refusal.Ended)
-      cut-first l =
-          let some : (field-at x 0 3 ≡ 0 → ⊥) = λ z. omega arith in
-          refuses (first-operand there most some (missing s c x ahead 3 (operand v) (lit≤ tt) l))
-
-      pub enough-unnamed : (c .at + 20) / 8 ≤ length s → v ≤ field-at x 3 10 → Enough s v c x
-      enough-unnamed u l =
+      pub enough-code : 5 ≤ c .field → Enough s v l
+      enough-code m =
+          let n : 5 ≤ code-taken l .field = rw tc at m in
           record {
             code-there = there;
-            constant-there = λ e. absurd (omega arith);
-            operand-there = λ e m. record { is = omega arith };
-            second-there = λ e m n. record { is = omega arith };
+            constant-there = λ z. absurd (omega arith);
+            operand-there = λ p q. absurd (omega arith);
+            second-there = λ p q r. absurd (omega arith);
           }
 
-  -- where as many are there as its code asks for, all are
-  pub enough-asked : {k : ℕ} → k ≡ asked-of x → (c .at + k + 7) / 8 ≤ length s → x < 2 ^ 64 → Enough s v c x
-  enough-asked {k} asks l high =
-      record {
-        code-there = record { is = omega (arith, at-least) };
-        constant-there = λ e. let a : asked-of x ≡ 35 = asked-constant x (omega arith) in record { is = omega arith };
-        operand-there = λ e m. record { is = omega (arith, at-least) };
-        second-there = λ e m n. let a : asked-of x ≡ 23 = asked-two x (omega arith) in record { is = omega arith };
-      }
-    where
-      at-least : 13 ≤ asked-of x
-      at-least = by-tests (ltb x (2 ^ 61)) (ltb x (2 ^ 62))
+      pub cut-or-constant : {k : Taken} {r : Bool} → c .field ≡ 0 → k ≡ taken 32 (c .rest)
+          → r ≡ ltb (8 * length s) (k .rest .at) → CutShort s v l r
+      unfolding by-code
+      cut-or-constant {k} {r} none tk tr = by-test r refl
         where
-          by-tests : (a b : Bool) → 13 ≤ cond a 35 (cond b 13 23)
-          by-tests true b = lit≤ tt
-          by-tests false true = lit≤ tt
-          by-tests false false = lit≤ tt
+          no-code : code-taken l .field ≡ 0
+          no-code = rw tc at none
+
+          test : r ≡ ltb (8 * length s) (constant-taken l .rest .at)
+          test = rw (tk, tc) at tr
+
+          by-test : (t : Bool) → r ≡ t → CutShort s v l t
+          by-test true u =
+              refuses
+              (coded-as there 0 (lit≤ tt) no-code
+              ∙ rw (missing s (code-taken l .rest) constant (lit≤ tt) (ltb-true _ _ (sym test ∙ u))))
+          by-test false u =
+              record {
+                code-there = there;
+                constant-there = λ z. record { is = ltb-false _ _ (sym test ∙ u) };
+                operand-there = λ p q. absurd (omega (arith, no-code));
+                second-there = λ p q r. absurd (omega (arith, no-code));
+              }
+
+      module _ (some : c .field ≡ 0 → ⊥) (most : c .field < 5) {i : Taken} (ti : i ≡ taken 10 (c .rest))
+          {d : Bool} (td : d ≡ ltb (8 * length s) (i .rest .at)) where
+        first-is' : i ≡ first-taken l
+        first-is' = ti ∙ ap (λ (t : Taken). taken 10 (t .rest)) tc
+
+        first-test : d ≡ ltb (8 * length s) (first-taken l .rest .at)
+        first-test = rw first-is' at td
+
+        some' : code-taken l .field ≡ 0 → ⊥
+        some' = rw tc at some
+
+        most' : code-taken l .field < 5
+        most' = rw tc at most
+
+        pub cut-first : d ≡ true → InstructedFrom s v l (Refused refusal.Ended)
+        cut-first f =
+            refuses
+            (first-operand there most' some'
+            (missing s (code-taken l .rest) (operand v) (lit≤ tt) (ltb-true _ _ (sym first-test ∙ f))))
+
+        module _ (f : d ≡ false) where
+          reaches-first : Reaches s (first-taken l .rest)
+          reaches-first = record { is = ltb-false _ _ (sym first-test ∙ f) }
+
+          enough-operand : (2 ≤ code-taken l .field → first-taken l .field < v → Reaches s (second-taken l .rest)) → Enough s v l
+          enough-operand g =
+              record {
+                code-there = there;
+                constant-there = λ z. absurd (some' z);
+                operand-there = λ p q. reaches-first;
+                second-there = λ p q r. g p r;
+              }
+
+          pub enough-negate : c .field ≡ 1 → Enough s v l
+          enough-negate o = let n : code-taken l .field ≡ 1 = rw tc at o in enough-operand (λ p q. absurd (omega arith))
+
+          pub enough-unnamed : v ≤ i .field → Enough s v l
+          enough-unnamed m =
+              let n : v ≤ first-taken l .field = rw first-is' at m in
+              enough-operand (λ p q. absurd (omega arith))
+
+          pub cut-or-second : {j : Taken} {r : Bool} → (c .field ≡ 1 → ⊥) → i .field < v → j ≡ taken 10 (i .rest)
+              → r ≡ ltb (8 * length s) (j .rest .at) → CutShort s v l r
+          cut-or-second {j} {r} two named tj tr = by-test r refl
+            where
+              test : r ≡ ltb (8 * length s) (second-taken l .rest .at)
+              test = rw (tj, first-is') at tr
+
+              other : code-taken l .field ≡ 1 → ⊥
+              other = rw tc at two
+
+              named' : first-taken l .field < v
+              named' = rw first-is' at named
+
+              by-test : (t : Bool) → r ≡ t → CutShort s v l t
+              by-test true u =
+                  refuses
+                  (two-coded there most' some' other
+                  ∙ rw (
+                    first-fine reaches-first named',
+                    missing s (first-taken l .rest) (operand v) (lit≤ tt) (ltb-true _ _ (sym test ∙ u)),
+                  ))
+              by-test false u = enough-operand (λ p q. record { is = ltb-false _ _ (sym test ∙ u) })
 
   -- where eight bytes are there, all are
-  pub enough-bytes : c .at / 8 + 8 ≤ length s → Enough s v c x
-  enough-bytes l =
+  pub enough-bytes : l .at / 8 + 8 ≤ length s → Enough s v l
+  enough-bytes e =
       record {
         code-there = record { is = omega arith };
-        constant-there = λ e. record { is = omega arith };
-        operand-there = λ e m. record { is = omega arith };
-        second-there = λ e m n. record { is = omega arith };
+        constant-there = λ z. record { is = omega arith };
+        operand-there = λ p q. record { is = omega arith };
+        second-there = λ p q r. record { is = omega arith };
       }
 
-module _ (s : List ℕ) (v : ℕ) (c : Cursor) (x : ℕ) {r : Bool} where
-  pub was-cut-short : CutShort s v c x r → r ≡ true → Instructed s (instruction v) 35 c (Refused refusal.Ended)
+module _ (s : List ℕ) (v : ℕ) (l : Loaded) {r : Bool} where
+  pub was-cut-short : CutShort s v l r → r ≡ true → InstructedFrom s v l (Refused refusal.Ended)
   was-cut-short a e = rw e at a
 
-  pub was-enough : CutShort s v c x r → r ≡ false → Enough s v c x
+  pub was-enough : CutShort s v l r → r ≡ false → Enough s v l
   was-enough a e = rw e at a
+
+-- what is read from a cursor's place, once its bits are loaded
+pub from-place : {s : List ℕ} {v : ℕ} {c : Cursor} {l : Loaded} {r : InstructionRead} → Loads s c l
+    → InstructedFrom s v l r → Instructed s v c r
+from-place {s} {v} {c} {r = r} o i = subst (λ (l : Loaded). Instructed s v (place-of l) r) (o .is) (i .is)

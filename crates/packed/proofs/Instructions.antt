@@ -4,13 +4,15 @@ use mathlib.Core.Bool.{Bool, true, false, cond}
 use mathlib.Core.List.{List}
 use Prim.Native.Nat.{ℕ, zero, suc, _^_, _≤_, _<_}
 use native.Mathlib.Omega.{arith}
-use lib.Dec.{ltb}
+use lib.Dec.{ltb, lit≤}
 use borrow.Author.Tests.{ne-eqb, lt-ltb, le-ltb, ltb-true, ltb-false}
 use lib.IntN.{ℤ, pos, natAbs, _-ℤ_}
 use Rattle.whole.proofs.Machine.{back, back-is}
 use Rattle.whole.proofs.Size.{size-sub}
+use Rattle.formulas.specs.declared.Instruction.{Instruction}
+use Rattle.formulas.specs.declared.Instruction.the-variants.{Constant, Negate, Add, Subtract, Multiply}
 use Rattle.packed.specs.Items.{read}
-use Rattle.packed.specs.Format.{twos-complement, two-operands, by-code}
+use Rattle.packed.specs.Format.{twos-complement, two-operands, by-code, wide}
 use Rattle.packed.specs.ReaderAnswers.{combined}
 
 pub twos-complement-low : (c : ℕ) → c < 2 ^ 31 → twos-complement c ≡ pos c
@@ -40,3 +42,11 @@ by-code-two v (suc (suc zero)) bs p q = refl
 by-code-two v (suc (suc (suc zero))) bs p q = refl
 by-code-two v (suc (suc (suc (suc k)))) bs p q =
     rw (ne-eqb (suc (suc (suc (suc k)))) 2 (omega arith), ne-eqb (suc (suc (suc (suc k)))) 3 (omega arith))
+
+-- no instruction takes more bits than a constant
+pub wide-most : (i : Instruction) → wide i ≤ 35
+wide-most (Constant c) = lit≤ tt
+wide-most (Negate i) = lit≤ tt
+wide-most (Add i j) = lit≤ tt
+wide-most (Subtract i j) = lit≤ tt
+wide-most (Multiply i j) = lit≤ tt

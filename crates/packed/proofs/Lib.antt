@@ -2,10 +2,12 @@
 pub mod FieldIn
 pub mod InTurn
 pub mod Instructions
-pub mod Fetched
+pub mod Taking
 pub mod Inside
-pub mod GivenExactly
 pub mod WellFormed
+pub mod PaddingGiven
+pub mod GivenExactly
 pub mod Shapes
 pub mod Accepted
 pub mod Formed
+pub mod OneInstruction

@@ -1,11 +1,11 @@
--- An instruction that was read, as the numbers at fixed places of its bits. Assumes nothing.
-use mathlib.Core.Path.{_≡_, sym, _∙_, ap, subst₂}
+-- An instruction that was read, as the fields that a loaded cursor hands out. Assumes nothing.
+use mathlib.Core.Path.{_≡_, sym, _∙_, ap, subst, subst₂}
 use mathlib.Core.List.{List}
-use Prim.Native.Nat.{ℕ, _+_, _^_, _≤_, _<_}
+use Prim.Native.Nat.{ℕ, _+_, _≤_, _<_}
 use native.Mathlib.Omega.{arith}
 use lib.Dec.{lit≤}
 use lib.IntN.{ℤ}
-use lib.ListN.{length, take, drop, length-drop}
+use lib.ListN.{length, take, drop}
 use lib.Seq.{drop-drop}
 use Rattle.whole.proofs.Machine.{back}
 use Rattle.refusals.specs.Answer.{value}
@@ -13,26 +13,29 @@ use Rattle.refusals.proofs.Answers.{first-of, same-value}
 use Rattle.bits.specs.declared.Cursor.{Cursor}
 use Rattle.bits.specs.Bits.{bits, number}
 use Rattle.bits.specs.Reader.{Read}
-use Rattle.bits.specs.Fields.{before, Ahead}
 use Rattle.bits.proofs.Take.{field-got, field-whole}
 use Rattle.formulas.specs.declared.Instruction.{Instruction}
 use Rattle.formulas.specs.declared.Instruction.the-variants.{Constant, Negate}
-use Rattle.packed.specs.Items.{FieldKind, code, constant, operand, width, permitted, complaint, entry, Form, done, ask}
-use Rattle.packed.specs.Items.{read}
-use Rattle.packed.specs.Format.{twos-complement, by-code, instruction}
-use Rattle.packed.specs.ReaderAnswers.{combined, field-at}
-use Rattle.packed.specs.Walk.{Readable, Decodes}
+use Rattle.packed.specs.declared.loaded.Loaded.{Loaded}
+use Rattle.packed.specs.declared.loaded.Taken.{Taken}
+use Rattle.packed.specs.Items.{FieldKind, code, constant, operand, width, permitted, complaint, entry, Form, ask}
+use Rattle.packed.specs.Items.{done, read}
+use Rattle.packed.specs.Format.{twos-complement, by-code, instruction, wide}
+use Rattle.packed.specs.Loading.{place-of, left, taken, Carries, Loads}
+use Rattle.packed.specs.ReaderAnswers.{combined, code-taken, constant-taken, first-taken, second-taken}
+use Rattle.packed.specs.Walk.{Readable, Decodes, DecodesFrom}
 use Rattle.packed.proofs.FieldIn.{passed-test}
 use Rattle.packed.proofs.Instructions.{by-code-two}
-use Rattle.packed.proofs.Inside.{no-code, some-code, constant-kept}
+use Rattle.packed.proofs.Taking.{top}
+use Rattle.packed.proofs.Inside.{combined-wide, past-code, past-first, constant-kept}
 
 -- a field that was read: it was there, and this is its number
-pub record Taken (k : FieldKind) (bs : List ℕ) (x : Read ℕ) : Type 0 where
+pub record FieldRead (k : FieldKind) (bs : List ℕ) (x : Read ℕ) : Type 0 where
   pub there : width k ≤ length bs
   pub number-is : x .got ≡ number (take (width k) bs)
   pub left-is : x .left ≡ drop (width k) bs
 
-pub entry-taken : (k : FieldKind) (bs : List ℕ) {x : Read ℕ} → entry k bs ≡ value x → Taken k bs x
+pub entry-taken : (k : FieldKind) (bs : List ℕ) {x : Read ℕ} → entry k bs ≡ value x → FieldRead k bs x
 entry-taken k bs e =
     let f = passed-test (width k) (permitted k) (complaint k) bs e .0 in
     let l = field-whole (width k) bs f in
@@ -52,67 +55,109 @@ asked k f bs {x} e =
     let after = subst₂ (λ (n : ℕ) (cs : List ℕ). read (f n) cs ≡ value x) (t .number-is) (t .left-is) (a .then-was) in
     record { there = t .there; follows = after }
 
-module _ (s : List ℕ) (c : Cursor) (x : ℕ) (r : Readable s c) (ahead : Ahead (before s c) x) where
-  abbrev bs : List ℕ
-  bs = before s c
+-- the same off a loaded cursor
+next : {A : Type 0} {s : List ℕ} {l : Loaded} (k : FieldKind) (n : ℕ) (f : ℕ → Form A) {x : Read A}
+    → Carries s l (width k + n) → width k + n ≤ 64 → 1 ≤ width k → read (ask k f) (left s l) ≡ value x
+    → read (f (taken (width k) l .field)) (left s (taken (width k) l .rest)) ≡ value x
+next {s = s} {l} k n f {x} c most some e =
+    let a = asked k f (left s l) e in
+    subst₂ (λ (m : ℕ) (bs : List ℕ). read (f m) bs ≡ value x) (sym (top s l (width k) n c most some (a .there)))
+    (drop-drop (width k) (l .at) (bits s)) (a .follows)
 
-  coded : (v : ℕ) {y : Read Instruction} → read (instruction v) bs ≡ value y → Asked code (by-code v) bs y
+module _ (s : List ℕ) (l : Loaded) (carries : Carries s l 57) where
+  coded : (v : ℕ) {y : Read Instruction} → read (instruction v) (left s l) ≡ value y
+      → read (by-code v (code-taken l .field)) (left s (code-taken l .rest)) ≡ value y
   unfolding instruction
-  coded v e = asked code (by-code v) bs e
+  coded v e = next code 54 (by-code v) carries (lit≤ tt) (lit≤ tt) e
 
-  the-code : number (take 3 bs) ≡ field-at x 0 3
-  the-code = sym (ahead 0 3 (lit≤ tt) (lit≤ tt) (coded (r .below) (r .reads) .there))
+  -- what was read is i, and it ends at d
+  decodes : {i : Instruction} (d : Loaded) {p : Cursor} → p ≡ place-of d → d .at ≡ l .at + wide i
+      → ((v : ℕ) (y : Read Instruction) → read (instruction v) (left s l) ≡ value y
+      → record { got = i; left = left s d } ≡ y) → DecodesFrom s l i p
+  decodes {i} d q w same =
+      rw q
+      (record {
+        is =
+            record {
+              decoded = λ v y e. (
+                ap (λ (z : Read Instruction). z .got) (same v y e),
+                ap (λ (z : Read Instruction). z .left) (same v y e),
+              );
+              stands = w;
+            };
+      })
 
-  -- after w bits of which o came before the last field
-  left-after : (o w : ℕ) {i j : Instruction} {y : Read Instruction} → i ≡ j
-      → record { got = j; left = drop w (drop o bs) } ≡ y → (i ≡ y .got) × (drop (c .at + (o + w)) (bits s) ≡ y .left)
-  left-after o w e g = (
-    e ∙ ap (λ (z : Read Instruction). z .got) g,
-    sym (drop-drop (o + w) (c .at) (bits s)) ∙ sym (drop-drop w o bs) ∙ ap (λ (z : Read Instruction). z .left) g,
-  )
+  module _ {c : Taken} (tc : c ≡ taken 3 l) where
+    pub decoded-constant : {k : Taken} {z : ℤ} {p : Cursor} → c .field ≡ 0 → k ≡ taken 32 (c .rest)
+        → z ≡ twos-complement (k .field) → p ≡ place-of (k .rest) → DecodesFrom s l (Constant (back z)) p
+    unfolding by-code
+    decoded-constant {k} none tk m q =
+        rw (constant-kept carries (rw is-constant at m))
+        (decodes (constant-taken l .rest) (rw is-constant at q) (omega arith)
+        (λ v y e. same-value
+        (next constant 22 (λ n. done (Constant (twos-complement n))) (past-code carries) (lit≤ tt) (lit≤ tt)
+        (rw no-code at (coded v e)))))
+      where
+        is-constant : k ≡ constant-taken l
+        is-constant = tk ∙ ap (λ (t : Taken). taken 32 (t .rest)) tc
 
-  pub decoded-constant : {z : ℤ} → x < 2 ^ 61 → z ≡ twos-complement (field-at x 3 32)
-      → Decodes s c (Constant (back z)) (record { at = c .at + 35 })
-  unfolding by-code
-  decoded-constant l m =
-      record {
-        decoded = λ v y e.
-            let a = rw (the-code ∙ no-code l) at (coded v e .follows) in
-            let b = asked constant (λ n. done (Constant (twos-complement n))) (drop 3 bs) a in
-            let n = ahead 3 32 (lit≤ tt) (lit≤ tt) (omega (arith, b .there, length-drop 3 bs)) in
-            left-after 3 32 (ap Constant (constant-kept x m ∙ ap twos-complement n)) (same-value (b .follows));
-        near = omega arith;
-      }
+        no-code : code-taken l .field ≡ 0
+        no-code = rw tc at none
 
-  pub decoded-negate : field-at x 0 3 ≡ 1 → Decodes s c (Negate (field-at x 3 10)) (record { at = c .at + 13 })
-  unfolding by-code
-  decoded-negate k =
-      record {
-        decoded = λ v y e.
-            let a = rw (the-code ∙ k) at (coded v e .follows) in
-            let b = asked (operand v) (λ n. done (Negate n)) (drop 3 bs) a in
-            let n = ahead 3 10 (lit≤ tt) (lit≤ tt) (omega (arith, b .there, length-drop 3 bs)) in
-            left-after 3 10 (ap Negate n) (same-value (b .follows));
-        near = omega arith;
-      }
+    module _ {i : Taken} (ti : i ≡ taken 10 (c .rest)) where
+      is-first : i ≡ first-taken l
+      is-first = ti ∙ ap (λ (t : Taken). taken 10 (t .rest)) tc
 
-  pub decoded-two : {i : Instruction} → 2 ^ 61 ≤ x → x < 2 ^ 64 → (field-at x 0 3 ≡ 1 → ⊥)
-      → i ≡ combined (field-at x 0 3) (field-at x 3 10) (field-at x 13 10) → Decodes s c i (record { at = c .at + 23 })
-  decoded-two low high two m =
-      record {
-        decoded = λ v y e.
-            let a = rw the-code at (coded v e .follows) in
-            let n = field-at x 0 3 in
-            let both = by-code-two v n (drop 3 bs) (some-code low high) two in
-            let b = asked (operand v) (second v) (drop 3 bs) (sym both ∙ a) in
-            let d = rw (drop-drop 10 3 bs) at (b .follows) in
-            let g = asked (operand v) (λ j. done (combined n (number (take 10 (drop 3 bs))) j)) (drop 13 bs) d in
-            let long : 23 ≤ length bs = omega (arith, b .there, g .there, length-drop 13 bs, length-drop 3 bs) in
-            let i = ahead 3 10 (lit≤ tt) (lit≤ tt) (omega arith) in
-            let j = ahead 13 10 (lit≤ tt) (lit≤ tt) long in
-            left-after 13 10 (m ∙ rw (i, j)) (same-value (g .follows));
-        near = omega arith;
-      }
-    where
-      second : ℕ → ℕ → Form Instruction
-      second v i = ask (operand v) (λ j. done (combined (field-at x 0 3) i j))
+      pub decoded-negate : {p : Cursor} → c .field ≡ 1 → p ≡ place-of (i .rest) → DecodesFrom s l (Negate (i .field)) p
+      unfolding by-code
+      decoded-negate one q =
+          let is-one : code-taken l .field ≡ 1 = rw tc at one in
+          rw is-first
+          (decodes (first-taken l .rest) (rw is-first at q) (omega arith)
+          (λ v y e. same-value
+          (next (operand v) 44 (λ n. done (Negate n)) (past-code carries) (lit≤ tt) (lit≤ tt)
+          (rw is-one at (coded v e)))))
+
+      pub decoded-two : {j : Taken} {x : Instruction} {p : Cursor} → (c .field ≡ 0 → ⊥) → (c .field ≡ 1 → ⊥)
+          → j ≡ taken 10 (i .rest) → p ≡ place-of (j .rest) → x ≡ combined (c .field) (i .field) (j .field)
+          → DecodesFrom s l x p
+      decoded-two {j} {x} some two tj q m =
+          rw x-is
+          (decodes (second-taken l .rest) (rw is-second at q) stands
+          (λ v y e.
+          let both = sym (by-code-two v (code-taken l .field) (left s (code-taken l .rest)) some' two') ∙ coded v e in
+          let b = next (operand v) 44 (second v) (past-code carries) (lit≤ tt) (lit≤ tt) both in
+          same-value (next (operand v) 34 (whole (first-taken l .field)) (past-first carries) (lit≤ tt) (lit≤ tt) b)))
+        where
+          n : ℕ
+          n = code-taken l .field
+
+          whole : ℕ → ℕ → Form Instruction
+          whole i j = done (combined n i j)
+
+          second : ℕ → ℕ → Form Instruction
+          second v i = ask (operand v) (whole i)
+
+          some' : code-taken l .field ≡ 0 → ⊥
+          some' = rw tc at some
+
+          two' : code-taken l .field ≡ 1 → ⊥
+          two' = rw tc at two
+
+          is-second : j ≡ second-taken l
+          is-second = tj ∙ ap (λ (t : Taken). taken 10 (t .rest)) is-first
+
+          x-is : x ≡ combined (code-taken l .field) (first-taken l .field) (second-taken l .field)
+          x-is = rw (tc, is-first, is-second) at m
+
+          stands : second-taken l .rest .at
+              ≡ l .at + wide (combined (code-taken l .field) (first-taken l .field) (second-taken l .field))
+          stands = omega (arith, combined-wide (code-taken l .field) (first-taken l .field) (second-taken l .field))
+
+-- what is decoded from a cursor's place, once its bits are loaded
+pub decodes-place : {s : List ℕ} {c d : Cursor} {l : Loaded} {i : Instruction} → Loads s c l → DecodesFrom s l i d
+    → Decodes s c i d
+decodes-place {s} {d = d} {i = i} o e = subst (λ (l : Loaded). Decodes s (place-of l) i d) (o .is) (e .is)
+
+pub readable-place : {s : List ℕ} {c : Cursor} {l : Loaded} → Loads s c l → Readable s c → Readable s (place-of l)
+readable-place {s} o r = subst (λ (l : Loaded). Readable s (place-of l)) (sym (o .is)) r

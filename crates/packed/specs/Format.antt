@@ -1,7 +1,7 @@
 -- Document 01, "The packed formula": its header, its instructions, its outputs, its padding.
 use mathlib.Core.Bool.{Bool, cond, _&&_}
 use mathlib.Core.List.{List, [], _∷_}
-use Prim.Native.Nat.{ℕ, zero, suc, _^_}
+use Prim.Native.Nat.{ℕ, zero, suc, _+_, _^_}
 use lib.Dec.{ltb, eqb}
 use lib.IntN.{ℤ, pos, _-ℤ_}
 use lib.ListN.{length}
@@ -51,6 +51,18 @@ unfoldable pub instruction : ℕ → Form Instruction
 instruction v = do
   c ← item code
   by-code v c
+
+-- so many bits it takes: "code 3", then "a constant of 32 bits" or an "operand of 10 bits" each
+abbrev pub wide : Instruction → ℕ
+wide (Constant c) = 3 + 32
+wide (Negate i) = 3 + 10
+wide (Add i j) = 3 + 10 + 10
+wide (Subtract i j) = 3 + 10 + 10
+wide (Multiply i j) = 3 + 10 + 10
+
+abbrev pub all-wide : List Instruction → ℕ
+all-wide [] = 0
+all-wide (i ∷ is) = wide i + all-wide is
 
 -- so many, one after another, the first with number v
 unfoldable pub several : {A : Type 0} → (ℕ → Form A) → ℕ → ℕ → Form (List A)

@@ -1,16 +1,14 @@
 -- Document 01, "Numbered replies and their order", the column "Given exactly when", for refusals 1 to 8.
 use mathlib.Core.Path.{_≡_}
-use mathlib.Core.Bool.{false}
 use mathlib.Core.List.{List}
 use mathlib.Core.Logic.{_⊎_}
-use Prim.Native.Nat.{ℕ, _^_, _≤_, _<_}
-use lib.ListN.{length, take}
+use Prim.Native.Nat.{ℕ, _%_, _^_, _≤_, _<_}
+use lib.ListN.{length, getD, take}
 use Rattle.refusals.specs.Answer.{value}
 use Rattle.bits.specs.Bits.{bits, number}
 use Rattle.bits.specs.Reader.{Read}
 use Rattle.packed.specs.Items.{FieldKind, version, scale, inputs, instructions, outputs, code, constant, operand}
 use Rattle.packed.specs.Items.{width, Form, ask, entry, read}
-use Rattle.packed.specs.Format.{is-padding}
 use Rattle.formulas.specs.Formula.{Formula}
 use Rattle.packed.specs.Meaning.{whole}
 
@@ -48,11 +46,17 @@ pub record Meets (s : List ℕ) (k : FieldKind) (P : FieldKind → List ℕ → 
   pub comes : Comes whole (bits s) k there
   pub holds : P k there
 
--- "a padding bit is set or a byte follows"
+-- "a padding bit is set or a byte follows", of the bits after the last field; those that make no whole byte come first
+-- and are the last byte's
+pub data NotPadding (bs : List ℕ) : Type 0 where
+  set-bit : (i : ℕ) → i < length bs % 8 → getD bs i 0 ≡ 1 → NotPadding bs
+  byte-follows : 8 ≤ length bs → NotPadding bs
+
+-- every field was there and permitted
 pub record BadlyPadded (s : List ℕ) : Type 0 where
   pub all : Read Formula
   pub reads : read whole (bits s) ≡ value all
-  pub not-padding : is-padding (all .left) ≡ false
+  pub not-padding : NotPadding (all .left)
 
 -- each number's condition
 pub data Given (s : List ℕ) : ℕ → Type 0 where

@@ -2,6 +2,7 @@
 pub mod Items
 pub mod Format
 pub mod Meaning
+pub mod Loading
 pub mod ReaderAnswers
 pub mod Given
 pub mod Walk

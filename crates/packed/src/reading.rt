@@ -3,10 +3,12 @@ ghost use mathlib.Core.Path.{_≡_};
 ghost use Prim.Native.Nat.{_+_, _/_, _^_, _≤_, _<_};
 ghost use lib.Dec.{ltb};
 ghost use lib.ListN.{length};
-ghost use Rattle.bits.specs.Fields.{before, Ahead};
-ghost use Rattle.packed.specs.Format.{twos-complement, instruction};
-ghost use Rattle.packed.specs.ReaderAnswers.{combined, Instructed, Enough, asked-of, CutShort};
+ghost use Rattle.packed.specs.Format.{twos-complement};
+ghost use Rattle.packed.specs.Loading.{Carries};
+ghost use Rattle.packed.specs.ReaderAnswers.{combined, Instructed, InstructedFrom, Enough, CutShort};
 use crate::InstructionRead;
+use crate::loaded::Loaded;
+use crate::loaded::load;
 use bits::Cursor;
 use formulas::Instruction;
 use refusals::Refusal;
@@ -36,82 +38,72 @@ pub(crate) fn combine(code: u64, i: usize, j: usize) -> Instruction
     Instruction::Multiply(i, j)
 }
 
-// So many bits an instruction takes, by its code.
-fn asked(x: u64) -> usize
-    ensures { λ r. ⌜ (r ≡ asked-of x) × (r ≤ 35) ⌝ }
-{
-    if x < 0x2000_0000_0000_0000 {
-        return 35;
-    }
-    if x < 0x4000_0000_0000_0000 {
-        return 13;
-    }
-    23
-}
-
 // Whether the bytes end inside a field before another refusal is due. Past their end what is ahead is 0.
-fn cut_short(s: &[u8], x: u64, c: Cursor, below: usize) -> bool
-    requires { ⌜ (c .at ≤ 2 ^ 30) × Ahead (before (now s) c) x ⌝ }
-    ensures { λ r. ⌜ CutShort (now (s .entry)) below c x r ⌝ }
+fn cut_short(s: &[u8], l: Loaded, below: usize) -> bool
+    requires { ⌜ (l .at ≤ 2 ^ 30) × Carries (now s) l 57 ⌝ }
+    ensures { λ r. ⌜ CutShort (now (s .entry)) below l r ⌝ }
 {
-    let at = c.at;
-    if (at + asked(x) + 7) / 8 <= s.len() {
-        return false;
-    }
-    if s.len() < (at + 10) / 8 {
+    let code = l.code();
+    if code.rest.ended(s) {
         return true;
     }
-    let code = (x >> 61) % 8;
-    if 5 <= code {
+    if 5 <= code.field {
         return false;
     }
-    if code < 2 {
+    if code.field == 0 {
+        let constant = code.rest.constant();
+        return constant.rest.ended(s);
+    }
+    let first = code.rest.operand();
+    if first.rest.ended(s) {
         return true;
     }
-    if s.len() < (at + 20) / 8 {
-        return true;
-    }
-    if below as u64 <= (x >> 51) % 1024 {
+    if code.field == 1 {
         return false;
     }
-    true
+    if below as u64 <= first.field {
+        return false;
+    }
+    let second = first.rest.operand();
+    second.rest.ended(s)
 }
 
-// An instruction whose fields all are there: they come out of what is ahead.
-fn read_ahead(s: &[u8], x: u64, c: Cursor, below: usize) -> InstructionRead
-    requires { ⌜ (c .at ≤ 2 ^ 30) × Enough (now s) below c x × Ahead (before (now s) c) x ⌝ }
-    ensures { λ r. ⌜ Instructed (now (s .entry)) (instruction below) 35 c r ⌝ }
+// An instruction whose fields all are there.
+fn read_ahead(s: &[u8], l: Loaded, below: usize) -> InstructionRead
+    requires { ⌜ (l .at ≤ 2 ^ 30) × Enough (now s) below l × Carries (now s) l 57 ⌝ }
+    ensures { λ r. ⌜ InstructedFrom (now (s .entry)) below l r ⌝ }
 {
-    let at = c.at;
-    // Not code 0. The test asks for all of x, so that the compiler keeps its eight bytes one load.
-    if 0x2000_0000_0000_0000 <= x {
-        let code = (x >> 61) % 8;
-        if 5 <= code {
-            return InstructionRead::Refused(Refusal::Code);
-        }
-        let i = (x >> 51) % 1024;
-        if below as u64 <= i {
-            return InstructionRead::Refused(Refusal::Operand);
-        }
-        if code == 1 {
-            return InstructionRead::Got(Instruction::Negate(i as usize), Cursor { at: at + 13 });
-        }
-        let j = (x >> 41) % 1024;
-        if below as u64 <= j {
-            return InstructionRead::Refused(Refusal::Operand);
+    let code = l.code();
+    if code.field == 0 {
+        let constant = code.rest.constant();
+        if constant.field == 0x8000_0000 {
+            return InstructionRead::Refused(Refusal::Constant);
         }
         return InstructionRead::Got(
-            combine(code, i as usize, j as usize),
-            Cursor { at: at + 23 },
+            Instruction::Constant(signed(constant.field)),
+            constant.rest.place(),
         );
     }
-    let constant = (x >> 29) % 0x1_0000_0000;
-    if constant == 0x8000_0000 {
-        return InstructionRead::Refused(Refusal::Constant);
+    if 5 <= code.field {
+        return InstructionRead::Refused(Refusal::Code);
+    }
+    let first = code.rest.operand();
+    if below as u64 <= first.field {
+        return InstructionRead::Refused(Refusal::Operand);
+    }
+    if code.field == 1 {
+        return InstructionRead::Got(
+            Instruction::Negate(first.field as usize),
+            first.rest.place(),
+        );
+    }
+    let second = first.rest.operand();
+    if below as u64 <= second.field {
+        return InstructionRead::Refused(Refusal::Operand);
     }
     InstructionRead::Got(
-        Instruction::Constant(signed(constant)),
-        Cursor { at: at + 35 },
+        combine(code.field, first.field as usize, second.field as usize),
+        second.rest.place(),
     )
 }
 
@@ -126,19 +118,19 @@ pub fn near_end(s: &[u8], c: Cursor) -> bool
 // Where eight bytes are there no field can have ended.
 pub fn read_whole(s: &[u8], c: Cursor, below: usize) -> InstructionRead
     requires { ⌜ (c .at ≤ 2 ^ 30) × (c .at / 8 + 8 ≤ length (now s)) ⌝ }
-    ensures { λ r. ⌜ Instructed (now (s .entry)) (instruction below) 35 c r ⌝ }
+    ensures { λ r. ⌜ Instructed (now (s .entry)) below c r ⌝ }
 {
-    let x = bits::ahead(s, c);
-    read_ahead(s, x, c, below)
+    let l = load(s, c);
+    read_ahead(s, l, below)
 }
 
 pub fn read_instruction(s: &[u8], c: Cursor, below: usize) -> InstructionRead
     requires { ⌜ c .at ≤ 2 ^ 30 ⌝ }
-    ensures { λ r. ⌜ Instructed (now (s .entry)) (instruction below) 35 c r ⌝ }
+    ensures { λ r. ⌜ Instructed (now (s .entry)) below c r ⌝ }
 {
-    let x = bits::ahead(s, c);
-    if cut_short(s, x, c, below) {
+    let l = load(s, c);
+    if cut_short(s, l, below) {
         return InstructionRead::Refused(Refusal::Ended);
     }
-    read_ahead(s, x, c, below)
+    read_ahead(s, l, below)
 }

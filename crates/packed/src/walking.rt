@@ -1,8 +1,9 @@
 // The instructions of a checked formula, one by one: all the fields of one come out of what is ahead of it, and nothing
 // is tested again.
 ghost use Prim.Native.Nat.{_^_, _≤_};
-ghost use Rattle.bits.specs.Fields.{before, Ahead};
-ghost use Rattle.packed.specs.Walk.{Readable, Decodes};
+ghost use Rattle.packed.specs.Loading.{place-of, Carries};
+ghost use Rattle.packed.specs.Walk.{Readable, DecodesFrom};
+use crate::loaded::Loaded;
 use crate::reading::combine;
 use crate::reading::signed;
 use bits::Cursor;
@@ -13,31 +14,28 @@ pub struct Decoded {
     pub next: Cursor,
 }
 
-// x is what is ahead of the cursor.
-pub fn decode_ahead(s: &[u8], x: u64, c: Cursor) -> Decoded
-    requires { ⌜ (c .at ≤ 2 ^ 30) × Readable (now s) c × Ahead (before (now s) c) x ⌝ }
-    ensures { λ r. ⌜ Decodes (now (s .entry)) c (r .instruction) (r .next) ⌝ }
+pub fn decode_ahead(s: &[u8], l: Loaded) -> Decoded
+    requires { ⌜ (l .at ≤ 2 ^ 30) × Readable (now s) (place-of l) × Carries (now s) l 57 ⌝ }
+    ensures { λ r. ⌜ DecodesFrom (now (s .entry)) l (r .instruction) (r .next) ⌝ }
 {
-    let at = c.at;
-    // Code 0. The test asks for all of x, so that the compiler keeps its eight bytes one load.
-    if x < 0x2000_0000_0000_0000 {
-        let n = (x >> 29) % 0x1_0000_0000;
+    let code = l.code();
+    if code.field == 0 {
+        let constant = code.rest.constant();
         return Decoded {
-            instruction: Instruction::Constant(signed(n)),
-            next: Cursor { at: at + 35 },
+            instruction: Instruction::Constant(signed(constant.field)),
+            next: constant.rest.place(),
         };
     }
-    let code = (x >> 61) % 8;
-    let i = (x >> 51) % 1024;
-    if code == 1 {
+    let first = code.rest.operand();
+    if code.field == 1 {
         return Decoded {
-            instruction: Instruction::Negate(i as usize),
-            next: Cursor { at: at + 13 },
+            instruction: Instruction::Negate(first.field as usize),
+            next: first.rest.place(),
         };
     }
-    let j = (x >> 41) % 1024;
+    let second = first.rest.operand();
     Decoded {
-        instruction: combine(code, i as usize, j as usize),
-        next: Cursor { at: at + 23 },
+        instruction: combine(code.field, first.field as usize, second.field as usize),
+        next: second.rest.place(),
     }
 }

@@ -14,7 +14,7 @@ use lib.Seq.{take-suc, drop-cons, append-snoc, length-take-le}
 use mir.Syntax.{w64}
 use mir.Val.{Fits}
 use Rattle.whole.proofs.Cases.{by-case}
-use Rattle.parsing.specs.Lines.{LF, some-then, if-closed, lines-after, lines}
+use Rattle.parsing.specs.Lines.{LF, some-then, if-closed, lines-after, lines, ended-after, ended-lines}
 use Rattle.parsing.specs.Cut.{Halves, cut}
 use Rattle.parsing.specs.declared.Found.{Found}
 use Rattle.parsing.specs.declared.Found.the-variants.{At, Nothing}
@@ -119,3 +119,27 @@ lines-after-cut begun (b ∷ s) = by-test (eqb b LF) (lines-after-cut (begun ++ 
 pub lines-cut : (s : List ℕ) → lines s ≡ lined [] s (cut LF s)
 unfolding lines
 lines-cut s = lines-after-cut [] s
+
+-- the ended lines, by the first LF
+abbrev pub ended-by : List ℕ → Option Halves → List (List ℕ)
+ended-by begun none = []
+ended-by begun (some h) = (begun ++ h .front) ∷ ended-lines (h .rest)
+
+ended-one : (begun : List ℕ) (b : ℕ) (o : Option Halves) → ended-by (begun ++ b ∷ []) o ≡ ended-by begun (pushed (b ∷ []) o)
+ended-one begun b none = refl
+ended-one begun b (some h) = ap (λ f. f ∷ ended-lines (h .rest)) (append-snoc begun b (h .front))
+
+ended-after-cut : (begun s : List ℕ) → ended-after begun s ≡ ended-by begun (cut LF s)
+unfolding ended-lines
+ended-after-cut begun [] = refl
+ended-after-cut begun (b ∷ s) = by-test (eqb b LF) (ended-after-cut (begun ++ b ∷ []) s)
+  where
+    by-test : (t : Bool) → ended-after (begun ++ b ∷ []) s ≡ ended-by (begun ++ b ∷ []) (cut LF s)
+        → cond t (begun ∷ ended-after [] s) (ended-after (begun ++ b ∷ []) s)
+        ≡ ended-by begun (cond t (some (record { front = []; rest = s })) (pushed (b ∷ []) (cut LF s)))
+    by-test true rec = ap (λ f. f ∷ ended-after [] s) (sym (append-nil begun))
+    by-test false rec = rec ∙ ended-one begun b (cut LF s)
+
+pub ended-cut : (s : List ℕ) → ended-lines s ≡ ended-by [] (cut LF s)
+unfolding ended-lines
+ended-cut s = ended-after-cut [] s

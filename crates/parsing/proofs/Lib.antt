@@ -5,3 +5,4 @@ pub mod Gathering
 pub mod Decimals
 pub mod Signs
 pub mod Words
+pub mod OneGathering

@@ -20,5 +20,5 @@ module _ (from to b : ℕ) where
   pub above-range : to < b → leb from b && leb b to ≡ false
   above-range r = ap (λ (t : Bool). leb from b && t) (lt-leb b to r) ∙ and-false (leb from b)
 
-  pub range-top : leb from b && leb b to ≡ true → b ≤ to
-  range-top e = leb-true b to (both (leb from b) (leb b to) e .1)
+  pub range-ends : leb from b && leb b to ≡ true → (from ≤ b) × (b ≤ to)
+  range-ends e = let k = both (leb from b) (leb b to) e in (leb-true from b (k .0), leb-true b to (k .1))

@@ -13,7 +13,7 @@ same-itself : (s : List ℕ) → same-bytes s s ≡ true
 same-itself [] = refl
 same-itself (a ∷ s) = ap₂ _&&_ (eq-eqb a a refl) (same-itself s)
 
-same-equal : (s t : List ℕ) → same-bytes s t ≡ true → s ≡ t
+pub same-equal : (s t : List ℕ) → same-bytes s t ≡ true → s ≡ t
 same-equal [] [] e = refl
 same-equal [] (b ∷ t) e = never (sym e)
 same-equal (a ∷ s) [] e = never (sym e)

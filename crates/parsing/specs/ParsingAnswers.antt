@@ -66,11 +66,12 @@ pub record Front {A : Type 0} (old new : List A) (n : ℕ) : Type 0 where
   pub within : n ≤ length new
   pub kept : new ≡ over (take n new) old
 
-abbrev pub FrontOnly : {A : Type 0} → List A → List A → Gathered → Type 0
-FrontOnly old new (gathered.Got n) = Front old new n
-FrontOnly old new gathered.Malformed = Unit {0}
+abbrev pub FrontOnly : {A : Type 0} → List A → List A → List A → Gathered → Type 0
+FrontOnly most old new (gathered.Got n) = Front old new n
+FrontOnly most old new gathered.Malformed = new ≡ over most old
 
--- the values were written to the front of a list, or there is no such list of values
-pub record Gathers {A : Type 0} (values : Option (List A)) (old new : List A) (r : Gathered) : Type 0 where
+-- the values were written to the front of a list, or there is no such list of values, and those that stand before what
+-- has another form were written
+pub record Gathers {A : Type 0} (values : Option (List A)) (most old new : List A) (r : Gathered) : Type 0 where
   pub told : values ≡ gathered-answer new r
-  pub front : FrontOnly old new r
+  pub front : FrontOnly most old new r

@@ -19,7 +19,9 @@ use Rattle.formulas.specs.declared.Header.{Header}
 use Rattle.formulas.specs.declared.Instruction.{Instruction}
 use Rattle.formulas.specs.Kinds.{plain-kind}
 use Rattle.formulas.proofs.Lawful.{plain-lawful}
-use Rattle.packed.specs.Walk.{Decodes}
+use Rattle.packed.specs.declared.loaded.Loaded.{Loaded}
+use Rattle.packed.specs.Loading.{Loads}
+use Rattle.packed.specs.Walk.{DecodesFrom}
 use Rattle.rounding.proofs.Products.{kept}
 use Rattle.walks.specs.declared.Walked.the-variants.{Stopped}
 use Rattle.walks.specs.Walks.{Named, Operand, Stepped, Walks}
@@ -41,13 +43,14 @@ module _ {s : List ℕ} {h : Header} {c : Cursor} {k : ℕ} {old now : List ℤ}
   pub plain-long : length now ≡ length old
   plain-long = walking-room plain-lawful w
 
-  module _ (more : k ≡ h .instructions → ⊥) {i : Instruction} {e : Cursor} (decodes : Decodes s c i e) {r : PlainStep}
+  module _ (more : k ≡ h .instructions → ⊥) {l : Loaded} (loads : Loads s c l) {i : Instruction} {e : Cursor}
+      (from : DecodesFrom s l i e) {r : PlainStep}
       (steps : Stepped plain-kind (h .scale) i (h .inputs + k) now (plain-answer r)) where
     pub plain-stops : {q : Refusal} → r ≡ Refused q → Walks plain-kind s h old now (Stopped q k)
-    plain-stops t = walking-stops plain-lawful w more decodes steps (ap plain-answer t)
+    plain-stops t = walking-stops plain-lawful w more loads from steps (ap plain-answer t)
 
     pub plain-more : {v : ℤ} → r ≡ Value v → Walking plain-kind s h e (k + 1) old (set now (h .inputs + k) (back v))
     plain-more {v} t =
-        walking-more plain-lawful w more decodes steps (ap plain-answer t)
+        walking-more plain-lawful w more loads from steps (ap plain-answer t)
         (λ holds many legal.
         ap (set now (h .inputs + k)) (kept v legal) ∙ part-more (itself (pos 0)) (w .values) v old many (omega (arith, walking-inside plain-lawful w more, plain-long)) holds)

@@ -3,9 +3,9 @@ ghost use Rattle.rules.specs.Steps.{plain-answer};
 ghost use Rattle.formulas.specs.Kinds.{plain-kind};
 ghost use Rattle.walks.specs.Walks.{Named, Operand, Steppable, Stepped, Walkable, Walks};
 use bits::Cursor;
-use bits::ahead;
 use formulas::Header;
 use formulas::Instruction;
+use packed::loaded::load;
 use packed::walking::decode_ahead;
 use plain::steps;
 use rules::PlainStep;
@@ -52,7 +52,7 @@ pub fn walk(s: &[u8], h: Header, work: &mut [i64]) -> Walked
             break Walked::Finished(at);
         }
         let made = h.inputs + k;
-        let d = decode_ahead(s, ahead(s, at), at);
+        let d = decode_ahead(s, load(s, at));
         let i = d.instruction;
         let next = d.next;
         match step(h.scale, i, work, made) {

@@ -24,16 +24,16 @@ abbrev last : ℕ → List ℕ
 last n = (48 + n % 10) ∷ []
 
 -- one digit, or those of a tenth and the last one
-digits-small : (f n : ℕ) → n < 10 → digits-of f n ≡ (48 + n) ∷ []
+pub digits-small : (f n : ℕ) → n < 10 → digits-of f n ≡ (48 + n) ∷ []
 unfolding digits-of
 digits-small zero n l = ap (λ (d : ℕ). (48 + d) ∷ []) (mod-eq-of-lt l)
 digits-small (suc f) n l = ap (λ (t : Bool). cond t ((48 + n) ∷ []) (digits-of f (n / 10) ++ last n)) (lt-ltb n 10 l)
 
-digits-large : (f n : ℕ) → 10 ≤ n → digits-of (suc f) n ≡ digits-of f (n / 10) ++ last n
+pub digits-large : (f n : ℕ) → 10 ≤ n → digits-of (suc f) n ≡ digits-of f (n / 10) ++ last n
 unfolding digits-of
 digits-large f n l = ap (λ (t : Bool). cond t ((48 + n) ∷ []) (digits-of f (n / 10) ++ last n)) (le-ltb n 10 l)
 
-tenth : (f n : ℕ) → n < 10 ^ suc (suc f) → n / 10 < 10 ^ suc f
+pub tenth : (f n : ℕ) → n < 10 ^ suc (suc f) → n / 10 < 10 ^ suc f
 tenth f n l = div-lt-iff-lt-mul {k = 10} {x = n} {y = 10 ^ suc f} (omega arith) .1 (rw pow-suc at l)
 
 -- a number of at most f + 1 digits

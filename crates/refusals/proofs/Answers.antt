@@ -10,6 +10,9 @@ no-value e = let z : _≡_ {A = ℕ} 0 1 = cc in omega arith
 pub same-value : {A : Type 0} {a b : A} → value a ≡ value b → a ≡ b
 same-value e = cc
 
+pub refused-same : {A : Type 0} {n m : ℕ} → _≡_ {A = Answer A} (refused n) (refused m) → n ≡ m
+refused-same e = cc
+
 pub same-refusal : {A B : Type 0} {m n : ℕ} → _≡_ {A = Answer A} (refused m) (refused n) → _≡_ {A = Answer B} (refused m) (refused n)
 same-refusal e = cc
 

@@ -1,4 +1,4 @@
--- From a job's reply to what C is told: an answer names at most 16 outputs, and the door leaves what the job leaves. Assumes nothing.
+-- From a job's reply to what C is told: an answer names at most 16 outputs, and the door leaves what the job leaves and no more. Assumes nothing.
 use mathlib.Core.Path.{_≡_, refl, sym, _∙_, ap, subst}
 use mathlib.Core.List.{List}
 use Prim.Native.Nat.{ℕ, _≤_}
@@ -10,15 +10,17 @@ use Rattle.refusals.specs.declared.Reply.{Reply}
 use Rattle.refusals.specs.declared.Reply.the-variants.{Done, Refused}
 use Rattle.refusals.specs.Refusals.{refusal-number}
 use Rattle.refusals.specs.Answer.{Answer, value, refused}
-use Rattle.refusals.specs.Said.{reply-said}
+use Rattle.refusals.specs.Said.{Said, answered, refuses, reply-said}
 use Rattle.formulas.specs.declared.Header.{Header}
 use Rattle.formulas.specs.Formula.{Formula, InLimits}
 use Rattle.formulas.specs.Run.{Walk, finished, stopped}
 use Rattle.formulas.specs.Kinds.{Kind}
-use Rattle.formulas.specs.Job.{Started, start, walk-ended, started-run, job, said, Lent, Kept}
-use Rattle.formulas.proofs.Jobs.{starts, job-refused, job-started}
+use Rattle.formulas.specs.Job.{Started, start, walk-ended, started-run, job, said, Lent, lent-job, Kept}
+use Rattle.formulas.proofs.Lawful.{Lawful}
+use Rattle.formulas.proofs.Jobs.{starts, job-refused, job-started, job-numbered}
 use Rattle.packed.specs.Meaning.{formula, checked}
 use Rattle.packed.proofs.WellFormed.{accepted-well-formed}
+use Rattle.packed.proofs.GivenExactly.{formula-numbered}
 use Rattle.packed.proofs.Formed.{formed, limits-of}
 use Rattle.checking.specs.declared.Checked.{Checked}
 use Rattle.checking.specs.declared.Checked.the-variants as checked
@@ -48,6 +50,18 @@ module _ (K : Kind) (s : List ℕ) {given : K .Readings} {old new : Lent K} {q :
 
   pub kept-door : {r : MarginsReply} → r ≡ margins-reply (reply-said q) → Door K (formula s) given old new r
   kept-door e = record { tells = e ∙ ap margins-reply (k .says); works = k .works; gives = k .gives }
+
+-- a door that tells no refusal leaves what the job leaves that answers
+pub door-kept : {K : Kind} → Lawful K → (s : List ℕ) {given : K .Readings} {old new : Lent K} {r : MarginsReply} → Door K (formula s) given old new r
+    → r .refusal ≡ 0 → Kept K (formula s) given old new (Done (r .outputs))
+door-kept {K} law s {given} {old} {new} {r} d z = by-said (said (lent-job K (formula s) given old)) refl
+  where
+    by-said : (t : Said) → said (lent-job K (formula s) given old) ≡ t → Kept K (formula s) given old new (Done (r .outputs))
+    by-said (answered n) u =
+        record { says = ap answered (ap (λ (m : MarginsReply). m .outputs) (d .tells ∙ ap margins-reply u)) ∙ sym u; works = d .works; gives = d .gives }
+    by-said (refuses n k) u =
+        let no : n ≡ 0 = sym (ap (λ (m : MarginsReply). m .refusal) (d .tells ∙ ap margins-reply u)) ∙ z in
+        absurd (omega (arith, job-numbered law (formula s) given (K .room (old .work)) (K .room (old .output)) (formula-numbered s) (sym u)))
 
 -- a reply, case by case
 pub done-few : (q : Reply) {n : ℕ} → outputs-told (reply-said q) ≤ 16 → q ≡ Done n → n ≤ 16

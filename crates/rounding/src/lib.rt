@@ -48,7 +48,7 @@ fn unit(scale: u32) -> u64
 // h.
 pub fn half(scale: u32) -> u64
     requires { ⌜ scale ≤ top-scale ⌝ }
-    ensures { λ r. ⌜ r ≡ h scale ⌝ }
+    ensures { λ r. ⌜ (r ≡ h scale) × (r ≤ 2 ^ 30) ⌝ }
 {
     part(scale, 1, 0)
 }
@@ -64,7 +64,7 @@ fn round(scale: u32, p: i64) -> i64
 // The largest remainder goes on before the floor, so only a whole number of units stays as it is.
 pub fn up(scale: u32, p: u64) -> u64
     requires { ⌜ (scale ≤ top-scale) × (p ≤ M * M + 2 ^ top-scale) ⌝ }
-    ensures { λ r. ⌜ r ≡ Up scale p ⌝ }
+    ensures { λ r. ⌜ (r ≡ Up scale p) × (r < 2 ^ 62) ⌝ }
 {
     (p + part(scale, 0, 1)) >> scale
 }

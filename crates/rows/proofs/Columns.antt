@@ -18,13 +18,13 @@ use Rattle.parsing.specs.declared.Found.the-variants.{At, Nothing}
 use Rattle.parsing.specs.declared.Number.{Number}
 use Rattle.parsing.specs.declared.Number.the-variants as Number
 use Rattle.parsing.specs.declared.Gathered.the-variants.{Got, Malformed}
-use Rattle.parsing.specs.Lines.{LF, some-then, lines}
+use Rattle.parsing.specs.Lines.{LF, some-then, until-none, lines}
 use Rattle.parsing.specs.Cut.{Halves, cut}
 use Rattle.parsing.specs.ParsingAnswers.{number-answer, Finds, Gathers}
-use Rattle.parsing.proofs.Cuts.{lined, lines-cut, found-none, found-at, found-within}
+use Rattle.parsing.proofs.Cuts.{lined, lines-cut, ended-by, ended-cut, found-none, found-at, found-within}
 use Rattle.parsing.proofs.Gathering.{put-before, first-then, Gathering}
 use Rattle.parsing.proofs.Gathering.{gathered-room, gathered-one, gathered-all, gathered-malformed}
-use Rattle.rows.specs.Rows.{row, number-of, each-row, column, column-of}
+use Rattle.rows.specs.Rows.{row, number-of, each-row, column, column-of, rows-front, column-front}
 use Rattle.rows.proofs.Numbers.{row-some}
 
 module _ (k j : ℕ) where
@@ -57,6 +57,12 @@ module _ (k j : ℕ) where
       by-row none d rest = ap (λ (x : Option ℤ). first-then x (columned rest)) d
       by-row (some xs) d none = ap (λ (x : Option ℤ). first-then x none) d
       by-row (some xs) d (some rows) = ap (λ (x : Option ℤ). first-then x (some (column j rows))) d
+
+  abbrev front-by : Option Halves → List ℤ
+  front-by o = rows-front k j (ended-by [] o)
+
+  front-cut : (s : List ℕ) {o : Option Halves} → cut LF s ≡ o → column-front k j s ≡ front-by o
+  front-cut s e = ap (rows-front k j) (ended-cut s) ∙ ap front-by e
 
   -- the first line, then the others
   column-cut : (s : List ℕ) {h : Halves} → cut LF s ≡ some h → {x : Option ℤ} → number-of j (row k (h .front)) ≡ x
@@ -91,15 +97,16 @@ module _ (s : List ℕ) (at : ℕ) {r : Found} (f : Finds LF (take (length s - a
       let l = found-within f there in
       omega (arith, row-some (take e rest) k j d, length-take-le e rest (omega (arith, l)))
 
-module _ (k j : ℕ) {s : List ℕ} {at n : ℕ} {old new : List ℤ} (g : Gathering (column-of k j) s at old new n) where
-  pub column-all : length s ≤ at → Gathers (column-of k j s) old new (Got n)
+module _ (k j : ℕ) {s : List ℕ} {at n : ℕ} {old new : List ℤ} (g : Gathering (column-of k j) (column-front k j) s at old new n) where
+  pub column-all : length s ≤ at → Gathers (column-of k j s) (column-front k j s) old new (Got n)
   unfolding lines
   column-all l = gathered-all g refl l
 
   module _ (more : at < length s) {r : Found} (f : Finds LF (take (length s - at) (drop at s)) r) where
-    pub column-unended : r ≡ Nothing → Gathers (column-of k j s) old new Malformed
+    pub column-unended : r ≡ Nothing → Gathers (column-of k j s) (column-front k j s) old new Malformed
     column-unended e =
-        gathered-malformed g (column-open k j s at more (ap (cut LF) (sym (part-to-end s at)) ∙ found-none f e))
+        let uncut = ap (cut LF) (sym (part-to-end s at)) ∙ found-none f e in
+        gathered-malformed g (column-open k j s at more uncut) (front-cut k j (drop at s) uncut)
 
     module _ (q : Number) {e : ℕ} (there : r ≡ At e)
         (d : number-answer q ≡ number-of j (row k (take (at + e - at) (drop at s)))) where
@@ -116,14 +123,23 @@ module _ (k j : ℕ) {s : List ℕ} {at n : ℕ} {old new : List ℤ} (g : Gathe
           column-cut k j (drop at s) (ap (cut LF) (sym (part-to-end s at)) ∙ found-at f there) line-is
           ∙ ap₂ (λ (q : Number) (t : List ℕ). first-then (number-answer q) (column-of k j t)) b rest
 
-      pub column-bad : q ≡ Number.Malformed → Gathers (column-of k j s) old new Malformed
-      column-bad b = gathered-malformed g (first-line Number.Malformed b)
+      front-line : (q' : Number) → q ≡ q'
+          → column-front k j (drop at s) ≡ until-none (number-answer q') (column-front k j (drop (at + e + 1) s))
+      front-line q' b =
+          let z : at + suc e ≡ at + e + 1 = omega arith in
+          let rest = ap (drop (suc e)) (part-to-end s at) ∙ drop-drop (suc e) at s ∙ ap (λ n. drop n s) z in
+          front-cut k j (drop at s) (ap (cut LF) (sym (part-to-end s at)) ∙ found-at f there)
+          ∙ ap₂ (λ (o : Option ℤ) (t : List ℕ). until-none o (column-front k j t)) (line-is ∙ ap number-answer b) rest
+
+      pub column-bad : q ≡ Number.Malformed → Gathers (column-of k j s) (column-front k j s) old new Malformed
+      column-bad b = gathered-malformed g (first-line Number.Malformed b) (front-line Number.Malformed b)
 
       pub column-one : {x : ℤ} → q ≡ Number.Got x → mag x < 2 ^ hbits w64 → length s ≤ length old + length old
-          → Gathering (column-of k j) s (at + e + 1) old (set new n (back x)) (n + 1)
+          → Gathering (column-of k j) (column-front k j) s (at + e + 1) old (set new n (back x)) (n + 1)
       column-one {x} b small room =
           let one = line-end s at f there k j (line-is ∙ ap number-answer b) in
           let inside = end-within s at f there in
           let held = sym (toZ-ofZ w64 x (record { sfits = small })) in
           gathered-one g (back x) (gathered-room g more room) (omega arith) (omega arith)
           (first-line (Number.Got x) b ∙ ap (λ (y : ℤ). put-before (y ∷ []) (column-of k j (drop (at + e + 1) s))) held)
+          (front-line (Number.Got x) b ∙ ap (λ (y : ℤ). y ∷ column-front k j (drop (at + e + 1) s)) held)

@@ -6,7 +6,7 @@ use Prim.Native.Nat.{ℕ, zero, suc}
 use lib.Dec.{eqb}
 use lib.IntN.{ℤ, pos}
 use lib.ListN.{getD}
-use Rattle.parsing.specs.Lines.{some-then, lines}
+use Rattle.parsing.specs.Lines.{some-then, until-none, lines, ended-lines}
 use Rattle.parsing.specs.Cut.{cut}
 use Rattle.parsing.specs.Number.{number-meant}
 
@@ -40,6 +40,14 @@ rows-of k s = some-then (lines s) (each-row k)
 
 abbrev pub column-of : ℕ → ℕ → List ℕ → Option (List ℤ)
 column-of k j s = some-then (rows-of k s) (λ rows. some (column j rows))
+
+-- number j of each ended line before the first that has another form
+abbrev pub rows-front : ℕ → ℕ → List (List ℕ) → List ℤ
+rows-front k j [] = []
+rows-front k j (l ∷ ls) = until-none (number-of j (row k l)) (rows-front k j ls)
+
+abbrev pub column-front : ℕ → ℕ → List ℕ → List ℤ
+column-front k j s = rows-front k j (ended-lines s)
 
 -- the first of two numbers where j is 0, else the second
 abbrev pub chosen : ℕ → Option ℤ → Option ℤ → Option ℤ

@@ -2,7 +2,7 @@
 ghost use Prim.Native.Nat.{_+_, _≤_, _<_};
 ghost use lib.ListN.{length};
 ghost use Rattle.parsing.specs.ParsingAnswers.{Gathers};
-ghost use Rattle.rows.specs.Rows.{column-of};
+ghost use Rattle.rows.specs.Rows.{column-of, column-front};
 use crate::row;
 use parsing::Found;
 use parsing::Gathered;
@@ -12,7 +12,8 @@ use parsing::finding::find;
 // Number j of each line, k on each, to the front of `out`.
 pub fn read(s: &[u8], k: usize, j: usize, out: &mut [i64]) -> Gathered
     requires { ⌜ (j < k) × (length (now s) ≤ length (now out) + length (now out)) ⌝ }
-    ensures { λ r. ⌜ Gathers (column-of k j (now (s .entry))) (now (out .entry)) (now (out .exit)) r ⌝ }
+    ensures { λ r. ⌜ Gathers (column-of k j (now (s .entry))) (column-front k j (now (s .entry)))
+        (now (out .entry)) (now (out .exit)) r ⌝ }
 {
     let mut at = 0;
     let mut n = 0;

@@ -3,3 +3,4 @@ pub mod Programs
 pub mod Onward
 pub mod Walking
 pub mod Stepping
+pub mod OneWalk

@@ -11,7 +11,8 @@ use Rattle.bits.specs.Reader.{Read}
 use Rattle.bits.specs.Fields.{before}
 use Rattle.formulas.specs.declared.Instruction.{Instruction}
 use Rattle.packed.specs.Items.{read}
-use Rattle.packed.specs.Format.{instruction, several}
+use Rattle.packed.specs.Format.{instruction, several, wide, all-wide}
+use Rattle.packed.proofs.Instructions.{wide-most}
 use Rattle.formulas.specs.Formula.{Smaller}
 use Rattle.lists.specs.Each.{Each, one}
 use Rattle.packed.specs.Walk.{Readable, Decodes}
@@ -27,13 +28,14 @@ module _ {A : Type 0} (rule : Operation A → Answer A) (d : A) where
     pub same : run rule d (rest .all .got) vs ≡ run rule d (start .all .got) vs₀
     pub last : rest .all .left ≡ start .all .left
     pub near : c .at ≤ c₀ .at + 35 * k
+    pub stands : c .at + all-wide (rest .all .got) ≡ c₀ .at + all-wide (start .all .got)
 
   -- the same instructions, with their number and the first value's number written another way
   abbrev renamed : {s : List ℕ} {c : Cursor} {n v k w : ℕ} → n ≡ k → v ≡ w → Program s c n v → Program s c k w
   renamed {s} {c} e f p = record { all = p .all; reads = subst₂ (λ (k w : ℕ). read (several instruction k w) (before s c) ≡ value (p .all)) e f (p .reads) }
 
   pub onward-start : {s : List ℕ} {c : Cursor} {m l : ℕ} (vs : List A) → Program s c l m → Onward s c c m l 0 vs vs
-  onward-start {s} {c} {m} {l} vs p = record { few = omega arith; start = p; rest = renamed all first p; same = refl; last = refl; near = omega arith }
+  onward-start {s} {c} {m} {l} vs p = record { few = omega arith; start = p; rest = renamed all first p; same = refl; last = refl; near = omega arith; stands = refl }
     where
       all : l ≡ l - 0
       all = omega arith
@@ -55,12 +57,20 @@ module _ {A : Type 0} (rule : Operation A → Answer A) (d : A) where
       sym (o .same) ∙ ap (λ (is : List Instruction). run rule d is vs) (sym (ap (λ (r : Read (List Instruction)). r .got) (same-value (none-left o e))))
 
   -- and it stands after the instructions, however they were read
-  pub onward-stands : {s : List ℕ} {c₀ c : Cursor} {m l k : ℕ} {vs₀ vs : List A} (o : Onward s c₀ c m l k vs₀ vs) {x : Read (List Instruction)} → k ≡ l
-      → read (several instruction l m) (before s c₀) ≡ value x → (before s c ≡ x .left) × (c .at ≤ c₀ .at + 35 * l)
-  onward-stands {s} {c₀} {c} {m} {l} {k} o {x} e r = (
-    ap (λ (r : Read (List Instruction)). r .left) (same-value (none-left o e)) ∙ o .last ∙ ap (λ (r : Read (List Instruction)). r .left) (same-value (sym (o .start .reads) ∙ r)),
-    subst (λ (n : ℕ). c .at ≤ c₀ .at + 35 * n) e (o .near),
-  )
+  pub onward-stands : {s : List ℕ} {c₀ c : Cursor} {m l k : ℕ} {vs₀ vs : List A} (o : Onward s c₀ c m l k vs₀ vs)
+      {x : Read (List Instruction)} → k ≡ l → read (several instruction l m) (before s c₀) ≡ value x
+      → (before s c ≡ x .left) × (c .at ≡ c₀ .at + all-wide (x .got))
+  onward-stands {s} {c₀} {c} {m} {l} {k} o {x} e r =
+      let none = same-value (none-left o e) in
+      let same = same-value (sym (o .start .reads) ∙ r) in (
+        ap (λ (r : Read (List Instruction)). r .left) none ∙ o .last ∙ ap (λ (r : Read (List Instruction)). r .left) same,
+        omega (
+          arith,
+          o .stands,
+          ap (λ (r : Read (List Instruction)). all-wide (r .got)) none,
+          ap (λ (r : Read (List Instruction)). all-wide (r .got)) same,
+        ),
+      )
 
   module _ {s : List ℕ} {c₀ c : Cursor} {m l k : ℕ} {vs₀ vs : List A} (o : Onward s c₀ c m l k vs₀ vs) (less : k < l) where
     split : Split s c (l - (k + 1)) (m + k) (o .rest .all)
@@ -105,7 +115,8 @@ module _ {A : Type 0} (rule : Operation A → Answer A) (d : A) where
                 };
             same = sym (by-step (value v) r);
             last = split .last ∙ o .last;
-            near = omega (arith, decodes .near, o .near);
+            near = omega (arith, decodes .stands, wide-most i, o .near);
+            stands = omega (arith, decodes .stands, o .stands, ap all-wide (split .both), ap wide is-here);
           }
         where
           next : suc (m + k) ≡ m + (k + 1)

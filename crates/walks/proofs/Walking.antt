@@ -22,8 +22,11 @@ use Rattle.formulas.specs.Run.{Walk, with-values, run, made-by, walk-end}
 use Rattle.formulas.specs.Kinds.{Kind}
 use Rattle.formulas.proofs.Lawful.{Lawful}
 use Rattle.packed.specs.Items.{read}
-use Rattle.packed.specs.Format.{results}
-use Rattle.packed.specs.Walk.{Readable, Decodes}
+use Rattle.packed.specs.Format.{results, all-wide}
+use Rattle.packed.specs.Walk.{Readable, Decodes, DecodesFrom}
+use Rattle.packed.specs.declared.loaded.Loaded.{Loaded}
+use Rattle.packed.specs.Loading.{place-of, Loads}
+use Rattle.packed.proofs.Shapes.{decodes-place, readable-place}
 use Rattle.packed.proofs.Formed.{Formed, formed, limits-of}
 use Rattle.walks.specs.declared.Walked.the-variants.{Finished, Stopped}
 use Rattle.walks.specs.Walks.{Walkable, walk-of, Walks, Steppable, Stepped}
@@ -108,6 +111,7 @@ module _ {K : Kind} (law : Lawful K) {s : List ℕ} {h : Header} where
           holds = leaves refl r;
           stands =
               record {
+                stands = a .1 ∙ ap (λ is. first .at + all-wide is) (f .is-program);
                 near = walking-near;
                 all = f .outputs;
                 reads =
@@ -127,16 +131,16 @@ module _ {K : Kind} (law : Lawful K) {s : List ℕ} {h : Header} where
       pub walking-less : h .instructions - (k + 1) < h .instructions - k
       walking-less = omega (arith, next)
 
-      pub walking-ahead : c .at ≤ 2 ^ 32
-      walking-ahead = omega (arith, walking-near)
-
       pub walking-within : c .at ≤ 2 ^ 30
       walking-within = omega (arith, walking-near)
 
-      pub walking-readable : Readable s c
-      walking-readable = onward-readable (K .rule (h .scale)) (K .nothing) (w .onward) next
+      pub walking-readable : {l : Loaded} → Loads s c l → Readable s (place-of l)
+      walking-readable o = readable-place o (onward-readable (K .rule (h .scale)) (K .nothing) (w .onward) next)
 
-      module _ {i : Instruction} {e : Cursor} (decodes : Decodes s c i e) where
+      module _ {l : Loaded} (loads : Loads s c l) {i : Instruction} {e : Cursor} (from : DecodesFrom s l i e) where
+        decodes : Decodes s c i e
+        decodes = decodes-place loads from
+
         pub walking-steps : Steppable K (h .scale) i (h .inputs + k) now
         walking-steps =
             record {

@@ -2,7 +2,7 @@
 -- lists, and how it ends.
 use mathlib.Core.Path.{_≡_}
 use mathlib.Core.List.{List}
-use Prim.Native.Nat.{ℕ, _^_, _≤_, _<_}
+use Prim.Native.Nat.{ℕ, _+_, _^_, _≤_, _<_}
 use lib.ListN.{getD}
 use Rattle.lists.specs.All.{All}
 use Rattle.refusals.specs.Refusals.{refusal-number}
@@ -18,7 +18,7 @@ use Rattle.formulas.specs.Formula.{Smaller, places}
 use Rattle.formulas.specs.Run.{Walk, with-values, run, made-by, walk-end}
 use Rattle.formulas.specs.Kinds.{Kind}
 use Rattle.packed.specs.Items.{read}
-use Rattle.packed.specs.Format.{results}
+use Rattle.packed.specs.Format.{results, all-wide}
 use Rattle.packed.specs.Meaning.{meant, checked}
 use Rattle.walks.specs.declared.Walked.{Walked}
 use Rattle.walks.specs.declared.Walked.the-variants.{Finished, Stopped}
@@ -34,8 +34,9 @@ abbrev pub walked-said : Walked → Said
 walked-said (Finished d) = answered 0
 walked-said (Stopped r k) = refuses (refusal-number r) k
 
--- at the cursor stand the output fields of the formula in s
+-- the cursor stands after the header's 32 bits and those of all the instructions, where the output fields begin
 pub record AtOutputs (s : List ℕ) (d : Cursor) : Type 0 where
+  pub stands : d .at ≡ 32 + all-wide (meant s .program)
   pub near : d .at ≤ 2 ^ 20
   pub all : Read (List ℕ)
   pub reads : read (results (meant s .header .outputs) (places (meant s .header))) (before s d) ≡ value all

@@ -12,7 +12,7 @@ use Rattle.parsing.specs.declared.Named.{Named}
 use Rattle.parsing.specs.Lines.{some-then, lines}
 use Rattle.parsing.specs.Word.{Job, job-named, numbers-on-a-line}
 use Rattle.parsing.specs.ParsingAnswers.{named-answer, Gathers}
-use Rattle.hex.specs.Hex.{hex}
+use Rattle.hex.specs.Hex.{hex, hex-front}
 use Rattle.rows.specs.Rows.{each-row}
 use Rattle.printing.specs.Written.{Wrote}
 use Rattle.printing.proofs.Again.{wrote-same}
@@ -58,7 +58,7 @@ job-lines k bytes s l d = counted k l d (lines s)
     counted (suc (suc (suc zero))) l d o = with-rows (job-with 3) o
     counted (suc (suc (suc (suc k)))) l d o = absurd (omega arith)
 
-module _ (formula word s : List ℕ) {old new : List ℕ} {q : Gathered} (g : Gathers (hex formula) old new q) where
+module _ (formula word s : List ℕ) {old new : List ℕ} {q : Gathered} (g : Gathers (hex formula) (hex-front formula) old new q) where
   parts-are : by-parts formula word s ≡ by-lines (hex formula) (job-named word) (lines s)
   unfolding by-parts
   parts-are = each (lines s)

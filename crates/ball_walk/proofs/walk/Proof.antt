@@ -4,8 +4,9 @@ use borrow.Author.Needs.{needs}
 use Rattle.rules.specs.Lists.{ball-lists}
 use Rattle.formulas.specs.Kinds.{ball-kind}
 use Rattle.formulas.proofs.Lawful.{ball-lawful}
+use Rattle.packed.proofs.Taking.{loaded-near, loaded-carries}
 use Rattle.walks.proofs.Walking.{Walking, walking-start, walking-made, walking-offset, walking-next}
-use Rattle.walks.proofs.Walking.{walking-ahead, walking-within, walking-readable, walking-steps, walking-less, walking-ends}
+use Rattle.walks.proofs.Walking.{walking-within, walking-readable, walking-steps, walking-less, walking-ends}
 use Rattle.ball_walk.proofs.Turns.{centres-long, margins-long, centres-inside, margins-inside, balls-go-on, balls-stop}
 use Rattle.ball_walk.proofs.walk.Statement.{statement}
 use Rattle.ball_walk.proofs.walk.Tie as tie
@@ -25,8 +26,8 @@ walk-spec =
     μ-loop
     (λ c. search (walking-start ball-lawful))
     (λ c. search (walking-made ball-lawful))
-    (λ c κs. search (walking-ahead ball-lawful))
-    (λ c κs. search (needs, walking-within ball-lawful, walking-readable ball-lawful))
+    (λ c κs. search (walking-within ball-lawful))
+    (λ c κs. search (loaded-near, walking-within ball-lawful, walking-readable ball-lawful, loaded-carries))
     (λ c κs. search (walking-steps ball-lawful))
     (λ c. search needs)
     (λ c. search needs)

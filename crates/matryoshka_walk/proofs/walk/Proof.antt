@@ -4,8 +4,9 @@ use borrow.Author.Needs.{needs}
 use Rattle.rules.specs.Lists.{matryoshka-lists}
 use Rattle.formulas.specs.Kinds.{matryoshka-kind}
 use Rattle.formulas.proofs.Lawful.{matryoshka-lawful}
+use Rattle.packed.proofs.Taking.{loaded-near, loaded-carries}
 use Rattle.walks.proofs.Walking.{Walking, walking-start, walking-made, walking-offset, walking-next}
-use Rattle.walks.proofs.Walking.{walking-ahead, walking-within, walking-readable, walking-steps, walking-less, walking-ends}
+use Rattle.walks.proofs.Walking.{walking-within, walking-readable, walking-steps, walking-less, walking-ends}
 use Rattle.matryoshka_walk.proofs.Turns.{middles-long, strays-long, margins-long, middles-inside, strays-inside, margins-inside}
 use Rattle.matryoshka_walk.proofs.Turns.{matryoshki-go-on, matryoshki-stop}
 use Rattle.matryoshka_walk.proofs.walk.Statement.{statement}
@@ -26,8 +27,8 @@ walk-spec =
     μ-loop
     (λ c. search (walking-start matryoshka-lawful))
     (λ c. search (walking-made matryoshka-lawful))
-    (λ c κs. search (walking-ahead matryoshka-lawful))
-    (λ c κs. search (needs, walking-within matryoshka-lawful, walking-readable matryoshka-lawful))
+    (λ c κs. search (walking-within matryoshka-lawful))
+    (λ c κs. search (loaded-near, walking-within matryoshka-lawful, walking-readable matryoshka-lawful, loaded-carries))
     (λ c κs. search (walking-steps matryoshka-lawful))
     (λ c. search needs)
     (λ c. search needs)

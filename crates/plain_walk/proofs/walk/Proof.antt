@@ -3,7 +3,8 @@ use Prim.Native.Nat.{_-_}
 use borrow.Author.Needs.{needs}
 use Rattle.formulas.specs.Kinds.{plain-kind}
 use Rattle.formulas.proofs.Lawful.{plain-lawful}
-use Rattle.walks.proofs.Walking.{Walking, walking-start, walking-made, walking-offset, walking-next, walking-inside, walking-ahead, walking-within, walking-readable, walking-steps, walking-less, walking-ends}
+use Rattle.packed.proofs.Taking.{loaded-near, loaded-carries}
+use Rattle.walks.proofs.Walking.{Walking, walking-start, walking-made, walking-offset, walking-next, walking-inside, walking-within, walking-readable, walking-steps, walking-less, walking-ends}
 use Rattle.plain_walk.proofs.Turns.{plain-long, plain-more, plain-stops}
 use Rattle.plain_walk.proofs.walk.Statement.{statement}
 use Rattle.plain_walk.proofs.walk.Tie as tie
@@ -22,8 +23,8 @@ walk-spec =
     μ-loop
     (λ c. search (walking-start plain-lawful))
     (λ c. search (walking-made plain-lawful))
-    (λ c κs. search (walking-ahead plain-lawful))
-    (λ c κs. search (needs, walking-within plain-lawful, walking-readable plain-lawful))
+    (λ c κs. search (walking-within plain-lawful))
+    (λ c κs. search (loaded-near, walking-within plain-lawful, walking-readable plain-lawful, loaded-carries))
     (λ c κs. search (walking-steps plain-lawful))
     (λ c. search needs)
     (λ c. search needs)

@@ -5,7 +5,7 @@ use native.Mathlib.Omega.{arith}
 use borrow.Author.Needs.{needs}
 use lib.Pow.{pow-pos}
 use Rattle.rules.specs.Numbers.{Q, Up}
-use Rattle.rounding.proofs.Units.{unit-part, unit-bound}
+use Rattle.rounding.proofs.Units.{unit-part, unit-bound, up-size}
 use Rattle.rounding.proofs.up.Statement.{statement}
 use Rattle.rounding.proofs.up.Tie as tie
 use Rattle.rounding.proofs.up.Reads as reads
@@ -23,7 +23,10 @@ add-result c = record { fits = omega (arith, is-most c, unit-bound (c .before .p
 
 returns : tie.Need-returns
 unfolding Up
-returns c = ap (λ (n : ℕ). (c .before .args .p + n) / Q (c .before .args .scale)) (is-most c)
+returns c =
+    let a = c .before .args in
+    let e = ap (λ (n : ℕ). (a .p + n) / Q (a .scale)) (is-most c) in
+    (e, rw e (up-size (a .p) (c .before .pre .0) (c .before .pre .1)))
 
 pub up-spec : {M : Type 1} → statement M
 up-spec = tie.close (tie.spec part-requires add-result (λ c. search needs) returns)

@@ -8,7 +8,7 @@ use Rattle.rules.specs.Numbers.{M, Q, Round, Up}
 use Rattle.rules.specs.Values.{ball-reach}
 use Rattle.rules.specs.Steps.{within-reach}
 use Rattle.rules.specs.Balls.{ball}
-use Rattle.rounding.proofs.Units.{half-bound, up-size}
+use Rattle.rounding.proofs.Units.{half-bound}
 use Rattle.rounding.proofs.Linear.{centre-size}
 use Rattle.rounding.proofs.Products.{kept, kept-size, kept-product, round-held}
 use Rattle.balls.proofs.steps.multiply.Statement.{statement}
@@ -51,12 +51,7 @@ up-requires c κs =
     (s .pre .0, omega (arith, c .before .spread .ensures .1, q .ensures .2, half-bound (s .pre .0)))
 
 keep-requires : tie.Need-keep-requires
-keep-requires c κs =
-    let s = c .before .before .before .before .before .before .before .before .before .before .before .before in
-    let q = c .before .before .before .before .before .before .before .before .before .product-with-loss in
-    let w = c .before .before .before .spread in
-    let l = up-size (w .result + q .result .lost) (s .pre .0) (omega (arith, w .ensures .1, q .ensures .2, half-bound (s .pre .0))) in
-    omega (arith, l, c .before .up .ensures)
+keep-requires c κs = omega (arith, c .before .up .ensures .1)
 
 returns : tie.Need-returns
 returns c =
@@ -74,7 +69,7 @@ returns c =
     c .keep .ensures
     ∙ ap₂ (λ (z : ℤ) (n : ℕ). within-reach ball-reach (ball z n))
     (round-held (s .pre .0) (x .centre) (y .centre) p q (t .ensures .0 ∙ ap (Round F) product))
-    (c .before .before .up .ensures
+    (c .before .before .up .ensures .0
     ∙ ap₂ (λ (m n : ℕ). Up F (m + n))
     (w .ensures .0 ∙ ap₂ (λ (m n : ℕ). (m + x .margin) * y .margin + n * x .margin) (m .ensures ∙ ap natAbs (kept (x .centre) p)) (n .ensures ∙ ap natAbs (kept (y .centre) q)))
     (t .ensures .1 ∙ ap (λ (z : ℤ). natAbs (z -ℤ Round F z *ℤ pos (Q F))) product))

@@ -25,7 +25,7 @@ returns-2 c =
     let a = c .before .before .before .before .args in
     let w = a .width in
     let x = c .ahead .result in (
-      field-ahead (a .s .now) (a .self) w (omega arith) x (omega arith) (omega arith) (c .ahead .ensures),
+      field-ahead (a .s .now) (a .self) w (omega arith) x (omega arith) (omega arith) (c .ahead .ensures .fields),
       (refl, rw (one-shifted w (omega arith)) (mod-lt (x / 2 ^ (64 - w)) (pow-pos w))),
     )
 

@@ -8,7 +8,6 @@ use Rattle.rules.specs.Numbers.{Round, Up}
 use Rattle.rules.specs.Values.{matryoshka-reach}
 use Rattle.rules.specs.Steps.{within-reach}
 use Rattle.rules.specs.Matryoshki.{matryoshka}
-use Rattle.rounding.proofs.Units.{half-bound, up-size}
 use Rattle.rounding.proofs.Linear.{middle-size}
 use Rattle.rounding.proofs.Products.{kept, kept-size, kept-product, round-held}
 use Rattle.matryoshki.proofs.steps.multiply.Statement.{statement}
@@ -66,21 +65,15 @@ spread-requires-2 c κs =
     (omega (arith, e, s .pre .1), omega (arith, f, s .pre .2), omega arith)
 
 add-up : tie.Need-add-up
-add-up c = record { fits = omega (arith, c .before .before .spread2 .ensures .1, c .half .ensures, half-bound (c .before .before .before .before .before .before .before .before .before .before .before .before .before .before .pre .0)) }
+add-up c = record { fits = omega (arith, c .before .before .spread2 .ensures .1, c .half .ensures .1) }
 
 up-requires-2 : tie.Need-up-requires-2
 up-requires-2 c κs =
     let s = c .before .before .before .before .before .before .before .before .before .before .before .before .before .before in
-    (s .pre .0, omega (arith, c .before .before .spread2 .ensures .1, c .half .ensures, half-bound (s .pre .0)))
+    (s .pre .0, omega (arith, c .before .before .spread2 .ensures .1, c .half .ensures .1))
 
 keep-requires : tie.Need-keep-requires
-keep-requires c κs =
-    let s = c .before .before .before .before .before .before .before .before .before .before .before .before .before .before .before in
-    let v = c .before .before .before .before .before .before .spread in
-    let w = c .before .before .before .spread2 in
-    let p = up-size (v .result) (s .pre .0) (omega (arith, v .ensures .1)) in
-    let q = up-size (w .result + c .before .half .result) (s .pre .0) (omega (arith, w .ensures .1, c .before .half .ensures, half-bound (s .pre .0))) in
-    omega (arith, p, q, c .before .before .up .ensures, c .up2 .ensures)
+keep-requires c κs = omega (arith, c .before .before .up .ensures .1, c .up2 .ensures .1)
 
 returns : tie.Need-returns
 returns c =
@@ -96,12 +89,12 @@ returns c =
     ∙ ap (λ (z : ℤ). within-reach matryoshka-reach (matryoshka z (c .before .before .before .up .result) (c .before .up2 .result)))
     (round-held (s .pre .0) (x .middle) (y .middle) p q (c .before .before .before .before .before .before .before .before .before .before .before .before .before .product .ensures ∙ ap (Round F) (kept-product (x .middle) (y .middle) p q)))
     ∙ ap₂ (λ (n k : ℕ). within-reach matryoshka-reach (matryoshka (Round F (x .middle *ℤ y .middle)) n k))
-    (c .before .before .before .up .ensures
+    (c .before .before .before .up .ensures .0
     ∙ ap (Up F) (c .before .before .before .before .before .before .before .spread .ensures .0 ∙ ap₂ (λ (m n : ℕ). (m + x .stray) * y .stray + n * x .stray) e f))
-    (c .before .up2 .ensures
+    (c .before .up2 .ensures .0
     ∙ ap₂ (λ (d n : ℕ). Up F (d + n))
     (c .before .before .before .before .spread2 .ensures .0 ∙ ap₂ (λ (m n : ℕ). (m + x .stray + x .margin) * y .margin + (n + y .stray) * x .margin) e f)
-    (c .before .before .half .ensures))
+    (c .before .before .half .ensures .0))
 
 pub multiply-spec : {M : Type 1} → statement M
 multiply-spec =

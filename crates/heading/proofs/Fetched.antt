@@ -14,12 +14,12 @@ use Rattle.bits.specs.Reader.{field}
 use Rattle.bits.specs.Fields.{before, Ahead}
 use Rattle.bits.proofs.Gather.{length-bits}
 use Rattle.bits.proofs.Take.{field-got, field-ended}
 use Rattle.packed.specs.Items.{FieldKind, width, permitted, complaint, entry}
-use Rattle.packed.specs.ReaderAnswers.{field-at, There}
+use Rattle.heading.specs.HeaderAnswers.{field-at, There}
 use Rattle.packed.proofs.FieldIn.{test-cut, test-failed, test-passed}
 
 -- the field of kind k that starts o bits on
-module _ (s : List ℕ) (c : Cursor) (x : ℕ) (ahead : Ahead (before s c) x) (o : ℕ) (k : FieldKind) (some : 1 ≤ width k) where
+module _ (s : List ℕ) (c : Cursor) (x : ℕ) (ahead : Ahead 57 (before s c) x) (o : ℕ) (k : FieldKind) (some : 1 ≤ width k) where
   abbrev bs : List ℕ
   bs = before s c
 

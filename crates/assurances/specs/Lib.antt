@@ -1,0 +1,2 @@
+-- What the program's input asks for, and what the numbers that it prints assure.
+pub mod Printed

@@ -1,0 +1,313 @@
+-- A job of any kind gives refusals 10 and 11 exactly when document 01's table says, and no number beyond. Assumes nothing.
+use mathlib.Core.Path.{_≡_, refl, sym, _∙_, ap, subst, subst₂}
+use mathlib.Core.Bool.{Bool, true, false, cond, _&&_}
+use mathlib.Core.List.{List, [], _∷_, _++_}
+use mathlib.Core.Logic.{_⊎_, inl, inr}
+use Prim.Native.Nat.{ℕ, _-_, _≤_, _<_}
+use native.Mathlib.Omega.{arith}
+use lib.Dec.{leb}
+use borrow.Author.Tests.{leb-false, lt-leb}
+use lib.ListN.{length}
+use Rattle.lists.specs.Over.{least}
+use Rattle.lists.proofs.Over.{least-both}
+use Rattle.refusals.specs.Answer.{Answer, value, refused, then}
+use Rattle.refusals.specs.Said.{refuses}
+use Rattle.refusals.proofs.Answers.{no-value, refused-same, then-value}
+use Rattle.refusals.proofs.OneReply.{never-both, first-said, place-said}
+use Rattle.rules.specs.Operation.{Operation}
+use Rattle.rules.specs.Steps.{within-reach}
+use Rattle.rules.proofs.Reach.{reach-refuses, reach-refused}
+use Rattle.formulas.specs.declared.Header.{Header}
+use Rattle.formulas.specs.declared.Instruction.{Instruction}
+use Rattle.formulas.specs.Formula.{Formula, places}
+use Rattle.formulas.specs.Run.{Walk, finished, stopped, with-values, onward, run}
+use Rattle.formulas.specs.Kinds.{Kind, plain-kind, ball-kind, matryoshka-kind}
+use Rattle.formulas.specs.Job.{Started, roomy, if-room, start, walk-ended, started-run, job, said, Lent, lent-job}
+use Rattle.formulas.specs.GivenInRuns.{Terms, plain-terms, ball-terms, matryoshka-terms, Passed, OneUnder, NoRoom, work-short, output-short, OutOfReach, GivenInRun, ten, eleven}
+use Rattle.formulas.proofs.Lawful.{Lawful}
+use Rattle.formulas.proofs.Walks.{never-stopped, same-values, run-long}
+use Rattle.formulas.proofs.Jobs.{Starts, starts, start-is, job-refused, job-started}
+
+-- how a kind refuses: a step by its reach, lists by the shortest of them
+pub record Refusing (K : Kind) (T : Terms K) : Type 0 where
+  pub steps : (F : ℕ) (o : Operation (K .Value)) → K .rule F o ≡ within-reach (T .reach) (T .result F o)
+  pub room-under : (n : ℕ) (l : K .Lists) → K .room l < n → OneUnder n (T .lengths l)
+  pub under-room : (n : ℕ) (l : K .Lists) → OneUnder n (T .lengths l) → K .room l < n
+
+-- one list, and one more
+alone : {n k : ℕ} → (k < n) ⊎ ⊥ → k < n
+alone (inl l) = l
+alone (inr e) = absurd e
+
+module _ (n a b : ℕ) where
+  least-under : {A : Type 0} → (b < n → A) → least a b < n → (a < n) ⊎ A
+  unfolding least
+  least-under {A} f l = by-test (leb a b) l
+    where
+      by-test : (t : Bool) → cond t a b < n → (a < n) ⊎ A
+      by-test true l = inl l
+      by-test false l = inr (f l)
+
+  under-least : {A : Type 0} → (A → b < n) → (a < n) ⊎ A → least a b < n
+  under-least f (inl l) = omega (arith, least-both (least a b) a b (omega arith))
+  under-least f (inr u) = omega (arith, f u, least-both (least a b) a b (omega arith))
+
+pub plain-refusing : Refusing plain-kind plain-terms
+plain-refusing =
+    record {
+      steps = λ F o. refl;
+      room-under = λ n l u. inl u;
+      under-room = λ n l u. alone u;
+    }
+
+pub ball-refusing : Refusing ball-kind ball-terms
+ball-refusing =
+    record {
+      steps = λ F o. refl;
+      room-under = λ n l u. least-under n (length (l .centres)) (length (l .margins)) (λ v. inl v) u;
+      under-room = λ n l u. under-least n (length (l .centres)) (length (l .margins)) (λ v. alone v) u;
+    }
+
+pub matryoshka-refusing : Refusing matryoshka-kind matryoshka-terms
+matryoshka-refusing =
+    record {
+      steps = λ F o. refl;
+      room-under = λ n l u.
+          let s = length (l .strays) in
+          let r = length (l .margins) in
+          least-under n (length (l .middles)) (least s r) (λ v. least-under n s r (λ w. inl w) v) u;
+      under-room = λ n l u.
+          let s = length (l .strays) in
+          let r = length (l .margins) in
+          under-least n (length (l .middles)) (least s r) (λ v. under-least n s r (λ w. alone w) v) u;
+    }
+
+-- ---- where a walk stops
+
+module _ {A : Type 0} (rule : Operation A → Answer A) (d : A) where
+  -- the instructions before, the one that is refused, and those after
+  record Stop (is : List Instruction) (vs : List A) (n : ℕ) (ws : List A) : Type 0 where
+    earlier : List Instruction
+    instruction : Instruction
+    later : List Instruction
+    in-order : is ≡ earlier ++ instruction ∷ later
+    carried-out : run rule d earlier vs ≡ finished ws
+    refuses-it : rule (with-values d ws instruction) ≡ refused n
+
+  stop-there : (is : List Instruction) (i : Instruction) (after : List Instruction) (vs : List A) {n : ℕ} {ws : List A}
+      → run rule d is vs ≡ finished ws → rule (with-values d ws i) ≡ refused n → run rule d (is ++ i ∷ after) vs ≡ stopped n ws
+  stop-there [] i after vs {n} {ws} e r =
+      subst (λ (l : List A). onward l (λ k. run rule d after k) (rule (with-values d l i)) ≡ stopped n ws) (sym (same-values e))
+      (ap (onward ws (λ k. run rule d after k)) r)
+  stop-there (j ∷ is) i after vs {n} {ws} e r =
+      by-rule (rule (with-values d vs j)) e (λ v k. stop-there is i after (vs ++ v ∷ []) k r)
+    where
+      by-rule : (a : Answer A) → onward vs (λ l. run rule d is l) a ≡ finished ws
+          → ((v : A) → run rule d is (vs ++ v ∷ []) ≡ finished ws → run rule d (is ++ i ∷ after) (vs ++ v ∷ []) ≡ stopped n ws)
+          → onward vs (λ l. run rule d (is ++ i ∷ after) l) a ≡ stopped n ws
+      by-rule (value v) e rec = rec v e
+      by-rule (refused m) e rec = absurd (never-stopped e)
+
+  stop-of : (is : List Instruction) (vs : List A) {n : ℕ} {ws : List A} → run rule d is vs ≡ stopped n ws → Stop is vs n ws
+  stop-of [] vs e = absurd (never-stopped (sym e))
+  stop-of (i ∷ is) vs {n} {ws} e = by-rule (rule (with-values d vs i)) refl e (λ v k. stop-of is (vs ++ v ∷ []) k)
+    where
+      here : {m : ℕ} → rule (with-values d vs i) ≡ refused m → m ≡ n → vs ≡ ws → Stop (i ∷ is) vs n ws
+      here u p q =
+          record {
+            earlier = [];
+            instruction = i;
+            later = is;
+            in-order = refl;
+            carried-out = ap finished q;
+            refuses-it = subst (λ (l : List A). rule (with-values d l i) ≡ refused n) q (u ∙ ap refused p);
+          }
+
+      by-rule : (a : Answer A) → rule (with-values d vs i) ≡ a → onward vs (λ l. run rule d is l) a ≡ stopped n ws
+          → ((v : A) → run rule d is (vs ++ v ∷ []) ≡ stopped n ws → Stop is (vs ++ v ∷ []) n ws) → Stop (i ∷ is) vs n ws
+      by-rule (value v) u e rec =
+          let s = rec v e in
+          record {
+            earlier = i ∷ s .earlier;
+            instruction = s .instruction;
+            later = s .later;
+            in-order = ap (λ l. i ∷ l) (s .in-order);
+            carried-out = ap (onward vs (λ l. run rule d (s .earlier) l)) u ∙ s .carried-out;
+            refuses-it = s .refuses-it;
+          }
+      by-rule (refused m) u e rec = here u (cc) (cc)
+
+-- ---- room
+
+-- the shortest work list is short, or the shortest output list
+abbrev Short : Header → ℕ → ℕ → Type 0
+Short h work output = (work < places h) ⊎ (output < h .outputs)
+
+lacking : (h : Header) (work output : ℕ) → roomy h work output ≡ false → Short h work output
+lacking h work output e = by-work (leb (places h) work) refl e
+  where
+    by-work : (t : Bool) → leb (places h) work ≡ t → t && leb (h .outputs) output ≡ false → Short h work output
+    by-work true u e = inr (leb-false (h .outputs) output e)
+    by-work false u e = inl (leb-false (places h) work u)
+
+short : (h : Header) (work output : ℕ) → Short h work output → roomy h work output ≡ false
+short h work output (inl l) = ap (λ (t : Bool). t && leb (h .outputs) output) (lt-leb (places h) work l)
+short h work output (inr l) = by-work (leb (places h) work)
+  where
+    by-work : (t : Bool) → t && leb (h .outputs) output ≡ false
+    by-work true = lt-leb (h .outputs) output l
+    by-work false = refl
+
+-- ---- why a job is refused
+
+module _ {K : Kind} {T : Terms K} (law : Lawful K) (refusing : Refusing K T) (a : Answer Formula) (given : K .Readings)
+    (work output : ℕ) where
+  abbrev begun : Formula → List (K .Value) → Started K
+  begun f vs = record { formula = f; values = vs }
+
+  -- before any step
+  data NotStarted (n : ℕ) : Type 0 where
+    by-bytes : a ≡ refused n → NotStarted n
+    by-readings : (f : Formula) → K .tested (f .header .inputs) given ≡ refused n → NotStarted n
+    by-room : (p : Passed K a given) → Short (p .formula .header) work output → n ≡ 10 → NotStarted n
+
+  not-started : {n : ℕ} → start K a given work output ≡ refused n → NotStarted n
+  unfolding start
+  not-started {n} e = by-formula a refl e
+    where
+      of-room : (p : Passed K a given) (t : Bool) → roomy (p .formula .header) work output ≡ t
+          → if-room t (begun (p .formula) (p .values)) ≡ refused n → NotStarted n
+      of-room p true u e = absurd (no-value (sym e))
+      of-room p false u e = by-room p (lacking (p .formula .header) work output u) (sym (refused-same e))
+
+      by-tested : (f : Formula) → a ≡ value f → (b : Answer (List (K .Value))) → K .tested (f .header .inputs) given ≡ b
+          → then b (λ vs. if-room (roomy (f .header) work output) (begun f vs)) ≡ refused n → NotStarted n
+      by-tested f u (refused m) v e = by-readings f (v ∙ ap refused (refused-same e))
+      by-tested f u (value vs) v e =
+          of-room (record { formula = f; means = u; values = vs; fits = v }) (roomy (f .header) work output) refl e
+
+      by-formula : (b : Answer Formula) → a ≡ b
+          → then b (λ f. then (K .tested (f .header .inputs) given) (λ vs. if-room (roomy (f .header) work output) (begun f vs)))
+          ≡ refused n → NotStarted n
+      by-formula (refused m) u e = by-bytes (u ∙ ap refused (refused-same e))
+      by-formula (value f) u e = by-tested f u (K .tested (f .header .inputs) given) refl e
+
+  -- or at a step, by 11
+  data Why (n k : ℕ) : Type 0 where
+    early : NotStarted n → 0 ≡ k → Why n k
+    at-step : (st : Started K) → Starts K a given work output st → OutOfReach K T (st .formula) (st .values) k → 11 ≡ n → Why n k
+
+  why : {n k : ℕ} → said (job K a given work output) ≡ refuses n k → Why n k
+  why {n} {k} e = by-start (start K a given work output) refl
+    where
+      of-walk : (st : Started K) → Starts K a given work output st → (w : Walk (K .Value)) → started-run K st ≡ w
+          → said (walk-ended (K .nothing) (st .formula) w) ≡ refuses n k → Why n k
+      of-walk st s (finished vs) u e = absurd (never-both e)
+      of-walk st s (stopped m ws) u e =
+          let F = st .formula .header .scale in
+          let x = stop-of (K .rule F) (K .nothing) (st .formula .program) (st .values) u in
+          let r = reach-refused (T .reach) _ (sym (refusing .steps F _) ∙ x .refuses-it) in
+          let long = run-long (K .rule F) (K .nothing) (x .earlier) (st .values) (x .carried-out) in
+          let many = law .tested-values (st .formula .header .inputs) given (s .fits) .many in
+          let place : length (x .earlier) ≡ k = omega (arith, long, many, ap place-said e) in
+          at-step st s
+          (record {
+            earlier = x .earlier;
+            instruction = x .instruction;
+            later = x .later;
+            in-order = x .in-order;
+            number = place;
+            made = ws;
+            carried-out = x .carried-out;
+            too-far = r .1;
+          }) (sym (r .0) ∙ ap first-said e)
+
+      by-start : (b : Answer (Started K)) → start K a given work output ≡ b → Why n k
+      by-start (refused m) u =
+          let q = sym (ap said (job-refused K a given work output u)) ∙ e in
+          early (subst NotStarted (ap first-said q) (not-started u)) (ap place-said q)
+      by-start (value st) u =
+          of-walk st (starts K a given work output u) (started-run K st) refl (sym (ap said (job-started K a given work output u)) ∙ e)
+
+  -- where reading gives only 1 to 8, no number is over 11
+  pub job-last : {n k : ℕ} → ((m : ℕ) → a ≡ refused m → m ≤ 8) → said (job K a given work output) ≡ refuses n k → n ≤ 11
+  job-last {n} {k} few e = by-why (why e)
+    where
+      by-why : Why n k → n ≤ 11
+      by-why (early (by-bytes u) z) = omega (arith, few n u)
+      by-why (early (by-readings f u) z) = omega (arith, law .tested-refused (f .header .inputs) given u)
+      by-why (early (by-room p s t) z) = omega arith
+      by-why (at-step st s o t) = omega arith
+
+  without-room : (p : Passed K a given) → Short (p .formula .header) work output → start K a given work output ≡ refused 10
+  unfolding start
+  without-room p r =
+      then-value _ (p .means) ∙ then-value _ (p .fits)
+      ∙ ap (λ (t : Bool). if-room t (begun (p .formula) (p .values))) (short (p .formula .header) work output r)
+
+  stopped-run : (p : Passed K a given) {k : ℕ} → (o : OutOfReach K T (p .formula) (p .values) k)
+      → started-run K (begun (p .formula) (p .values)) ≡ stopped 11 (o .made)
+  stopped-run p o =
+      let F = p .formula .header .scale in
+      ap (λ is. run (K .rule F) (K .nothing) is (p .values)) (o .in-order)
+      ∙ stop-there (K .rule F) (K .nothing) (o .earlier) (o .instruction) (o .later) (p .values) (o .carried-out)
+      (refusing .steps F _ ∙ reach-refuses (T .reach) _ (o .too-far))
+
+  at-step-refused : (p : Passed K a given) → places (p .formula .header) ≤ work → p .formula .header .outputs ≤ output → {k : ℕ}
+      → OutOfReach K T (p .formula) (p .values) k → said (job K a given work output) ≡ refuses 11 k
+  at-step-refused p w l {k} o =
+      let st = start-is K a given work output (record { means = p .means; fits = p .fits; work-room = w; output-room = l }) in
+      let long = run-long (K .rule (p .formula .header .scale)) (K .nothing) (o .earlier) (p .values) (o .carried-out) in
+      let many = law .tested-values (p .formula .header .inputs) given (p .fits) .many in
+      let place : length (o .made) - p .formula .header .inputs ≡ k = omega (arith, long, many, o .number) in
+      ap said (job-started K a given work output st)
+      ∙ ap (λ w. said (walk-ended (K .nothing) (p .formula) w)) (stopped-run p o) ∙ ap (refuses 11) place
+
+-- ---- 10 and 11, of the lent lists
+
+module _ {K : Kind} {T : Terms K} (law : Lawful K) (refusing : Refusing K T) (a : Answer Formula) (given : K .Readings)
+    (lent : Lent K) where
+  abbrev work : ℕ
+  work = K .room (lent .work)
+
+  abbrev output : ℕ
+  output = K .room (lent .output)
+
+  has-short : {h : Header} → NoRoom K T h lent → Short h work output
+  has-short {h} (work-short u) = inl (refusing .under-room (places h) (lent .work) u)
+  has-short {h} (output-short u) = inr (refusing .under-room (h .outputs) (lent .output) u)
+
+  no-room : {h : Header} → Short h work output → NoRoom K T h lent
+  no-room {h} (inl l) = work-short (refusing .room-under (places h) (lent .work) l)
+  no-room {h} (inr l) = output-short (refusing .room-under (h .outputs) (lent .output) l)
+
+  long-enough : {h : Header} → (NoRoom K T h lent → ⊥) → (places h ≤ work) × (h .outputs ≤ output)
+  long-enough {h} d = (at-least (λ l. d (no-room (inl l))), at-least (λ l. d (no-room (inr l))))
+    where
+      at-least : {m n : ℕ} → (n < m → ⊥) → m ≤ n
+      at-least d = omega arith
+
+  pub given-in-run-refused : {n k : ℕ} → GivenInRun K T a given lent n k → said (lent-job K a given lent) ≡ refuses n k
+  given-in-run-refused (ten p r) =
+      ap said (job-refused K a given work output (without-room law refusing a given work output p (has-short r)))
+  given-in-run-refused (eleven p d o) =
+      let r = long-enough d in
+      at-step-refused law refusing a given work output p (r .0) (r .1) o
+
+  -- where reading gives only 1 to 8
+  pub refused-given-in-run : {n k : ℕ} → ((m : ℕ) → a ≡ refused m → m ≤ 8) → 10 ≤ n
+      → said (lent-job K a given lent) ≡ refuses n k → GivenInRun K T a given lent n k
+  refused-given-in-run {n} {k} few l e = by-why (why law refusing a given work output e)
+    where
+      both-short : (h : Header) → places h ≤ work → h .outputs ≤ output → Short h work output → ⊥
+      both-short h p q (inl l) = omega arith
+      both-short h p q (inr l) = omega arith
+
+      by-why : Why law refusing a given work output n k → GivenInRun K T a given lent n k
+      by-why (early (by-bytes u) z) = absurd (omega (arith, few n u))
+      by-why (early (by-readings f u) z) = absurd (omega (arith, law .tested-refused (f .header .inputs) given u))
+      by-why (early (by-room p s t) z) = subst₂ (GivenInRun K T a given lent) (sym t) z (ten p (no-room s))
+      by-why (at-step st s o t) =
+          let p : Passed K a given = record { formula = st .formula; means = s .means; values = st .values; fits = s .fits } in
+          subst (λ (m : ℕ). GivenInRun K T a given lent m k) t
+          (eleven p (λ r. both-short (st .formula .header) (s .work-room) (s .output-room) (has-short r)) o)

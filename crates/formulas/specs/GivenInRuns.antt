@@ -1,0 +1,80 @@
+-- Document 01, "Numbered replies and their order", the column "Given exactly when", for refusals 10 and 11 of a job of
+-- any kind.
+use mathlib.Core.Path.{_≡_}
+use mathlib.Core.List.{List, [], _∷_, _++_}
+use mathlib.Core.Logic.{_⊎_}
+use Prim.Native.Nat.{ℕ, _<_}
+use lib.ListN.{length}
+use Rattle.refusals.specs.Answer.{Answer, value}
+use Rattle.rules.specs.Numbers.{M}
+use Rattle.rules.specs.Values.{plain-reach, ball-reach, matryoshka-reach}
+use Rattle.rules.specs.Operation.{Operation}
+use Rattle.rules.specs.Plain.{plain-result}
+use Rattle.rules.specs.Balls.{ball-result}
+use Rattle.rules.specs.Matryoshki.{matryoshka-result}
+use Rattle.formulas.specs.declared.Header.{Header}
+use Rattle.formulas.specs.declared.Instruction.{Instruction}
+use Rattle.formulas.specs.Formula.{Formula, places}
+use Rattle.formulas.specs.Run.{finished, with-values, run}
+use Rattle.formulas.specs.Kinds.{Kind, plain-kind, ball-kind, matryoshka-kind}
+use Rattle.formulas.specs.Job.{Lent}
+
+-- what the table's words say of a kind: a step's result, how far it reaches, and how many places each lent list has
+pub record Terms (K : Kind) : Type 0 where
+  pub result : ℕ → Operation (K .Value) → K .Value
+  pub reach : K .Value → ℕ
+  pub lengths : K .Lists → List ℕ
+
+abbrev pub plain-terms : Terms plain-kind
+plain-terms = record { result = plain-result; reach = plain-reach; lengths = λ l. length l ∷ [] }
+
+abbrev pub ball-terms : Terms ball-kind
+ball-terms =
+    record {
+      result = ball-result;
+      reach = ball-reach;
+      lengths = λ l. length (l .centres) ∷ length (l .margins) ∷ [];
+    }
+
+abbrev pub matryoshka-terms : Terms matryoshka-kind
+matryoshka-terms =
+    record {
+      result = matryoshka-result;
+      reach = matryoshka-reach;
+      lengths = λ l. length (l .middles) ∷ length (l .strays) ∷ length (l .margins) ∷ [];
+    }
+
+-- "Then 9, 10, 11": the bytes are a formula and the readings pass, so none of 1 to 9 is given
+pub record Passed (K : Kind) (a : Answer Formula) (given : K .Readings) : Type 0 where
+  pub formula : Formula
+  pub means : a ≡ value formula
+  pub values : List (K .Value)
+  pub fits : K .tested (formula .header .inputs) given ≡ value values
+
+-- one of these lists has under n places
+abbrev pub OneUnder : ℕ → List ℕ → Type 0
+OneUnder n [] = ⊥
+OneUnder n (k ∷ ks) = (k < n) ⊎ OneUnder n ks
+
+-- "a work list has under m+l places or an output list under n"
+pub data NoRoom (K : Kind) (T : Terms K) (h : Header) (lent : Lent K) : Type 0 where
+  work-short : OneUnder (places h) (T .lengths (lent .work)) → NoRoom K T h lent
+  output-short : OneUnder (h .outputs) (T .lengths (lent .output)) → NoRoom K T h lent
+
+-- "a step's result is out of reach": the first k instructions were carried out, and the next one's result is
+pub record OutOfReach (K : Kind) (T : Terms K) (f : Formula) (values : List (K .Value)) (k : ℕ) : Type 0 where
+  pub earlier : List Instruction
+  pub instruction : Instruction
+  pub later : List Instruction
+  pub in-order : f .program ≡ earlier ++ instruction ∷ later
+  pub number : length earlier ≡ k
+  pub made : List (K .Value)
+  pub carried-out : run (K .rule (f .header .scale)) (K .nothing) earlier values ≡ finished made
+  pub too-far : M < T .reach (T .result (f .header .scale) (with-values (K .nothing) made instruction))
+
+-- each number's condition, and its place
+pub data GivenInRun (K : Kind) (T : Terms K) (a : Answer Formula) (given : K .Readings)
+    (lent : Lent K) : ℕ → ℕ → Type 0 where
+  ten : (p : Passed K a given) → NoRoom K T (p .formula .header) lent → GivenInRun K T a given lent 10 0
+  eleven : (p : Passed K a given) → (NoRoom K T (p .formula .header) lent → ⊥)
+      → {k : ℕ} → OutOfReach K T (p .formula) (p .values) k → GivenInRun K T a given lent 11 k

@@ -1,0 +1,2 @@
+-- Where the contracts refuse the wrong programs.
+pub mod Stops

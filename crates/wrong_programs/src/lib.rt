@@ -1,0 +1,2 @@
+// The wrong programs of document 01, as functions from what a job is given to what it leaves, and the inputs at which
+// the contracts refuse them: definitions in specs/, proofs in proofs/. There is no code here.
