@@ -1,8 +1,11 @@
-.PHONY: run test bench
+.PHONY: run test bench install
 
-# Document 01's example, run the three ways by the program `margins`, and its worked steps.
+PREFIX ?= /usr/local
+
+# Document 01's example, run the three ways by the program `margins`, and its worked steps. Leaves the program at target/margins.
 run:
-	@rt check margins figures > /dev/null && tests/example && cat target/log/figures.stdout
+	@tools/kit > /dev/null && rt check margins figures > /dev/null && tools/program && tests/example && cat target/log/figures.stdout
+	@echo "the program is target/margins"
 
 # The gate.
 test:
@@ -10,4 +13,8 @@ test:
 
 # This library over a hand-written C implementation: ratios of times, and of instructions by callgrind.
 bench:
-	@tools/library 2> /dev/null && bench/run
+	@tools/library && bench/run
+
+# The program, the header, the library and a pkg-config file below PREFIX.
+install:
+	@tools/install "$(PREFIX)"

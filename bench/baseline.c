@@ -46,29 +46,29 @@ static uint32_t read_header(const uint8_t *bytes, size_t length, formula *f)
     uint64_t word = window(bytes, length, 0);
     size_t bits = length < 8 ? 8 * length : 64;
     if (bits < 7)
-        return MARGINS_ENDED;
+        return MARGINS_REFUSED_ENDED;
     if (word >> 57 != 1)
-        return MARGINS_VERSION;
+        return MARGINS_REFUSED_VERSION;
     if (bits < 12)
-        return MARGINS_ENDED;
+        return MARGINS_REFUSED_ENDED;
     f->scale = word >> 52 & 31;
     if (f->scale > 30)
-        return MARGINS_SCALE;
+        return MARGINS_REFUSED_SCALE;
     if (bits < 17)
-        return MARGINS_ENDED;
+        return MARGINS_REFUSED_ENDED;
     f->inputs = word >> 47 & 31;
     if (f->inputs > MARGINS_MOST_INPUTS)
-        return MARGINS_COUNT;
+        return MARGINS_REFUSED_COUNT;
     if (bits < 27)
-        return MARGINS_ENDED;
+        return MARGINS_REFUSED_ENDED;
     f->instructions = word >> 37 & 1023;
     if (f->instructions > MOST_INSTRUCTIONS)
-        return MARGINS_COUNT;
+        return MARGINS_REFUSED_COUNT;
     if (bits < 32)
-        return MARGINS_ENDED;
+        return MARGINS_REFUSED_ENDED;
     f->outputs = word >> 32 & 31;
     if (f->outputs < 1 || f->outputs > MARGINS_MOST_OUTPUTS)
-        return MARGINS_COUNT;
+        return MARGINS_REFUSED_COUNT;
     return MARGINS_DONE;
 }
 
@@ -84,48 +84,48 @@ static uint32_t read_formula(const uint8_t *bytes, size_t length, formula *f)
         size_t left = end - bit;
         uint32_t code = (uint32_t)(word >> 61);
         if (left < 3)
-            return MARGINS_ENDED;
+            return MARGINS_REFUSED_ENDED;
         if (code > MULTIPLY)
-            return MARGINS_CODE;
+            return MARGINS_REFUSED_CODE;
         f->program[k].code = code;
         if (code == CONSTANT) {
             if (left < 35)
-                return MARGINS_ENDED;
+                return MARGINS_REFUSED_ENDED;
             int32_t constant = (int32_t)(uint32_t)(word >> 29);
             if (constant == INT32_MIN)
-                return MARGINS_CONSTANT;
+                return MARGINS_REFUSED_CONSTANT;
             f->program[k].constant = constant;
             bit += 35;
             continue;
         }
         if (left < 13)
-            return MARGINS_ENDED;
+            return MARGINS_REFUSED_ENDED;
         uint32_t first = word >> 51 & 1023;
         if (first >= value)
-            return MARGINS_OPERAND;
+            return MARGINS_REFUSED_OPERAND;
         f->program[k].left = (uint16_t)first;
         if (code == NEGATE) {
             bit += 13;
             continue;
         }
         if (left < 23)
-            return MARGINS_ENDED;
+            return MARGINS_REFUSED_ENDED;
         uint32_t second = word >> 41 & 1023;
         if (second >= value)
-            return MARGINS_OPERAND;
+            return MARGINS_REFUSED_OPERAND;
         f->program[k].right = (uint16_t)second;
         bit += 23;
     }
     for (uint32_t i = 0; i < f->outputs; i++, bit += 10) {
         if (end - bit < 10)
-            return MARGINS_ENDED;
+            return MARGINS_REFUSED_ENDED;
         uint32_t name = (uint32_t)(window(bytes, length, bit) >> 54);
         if (name >= f->inputs + f->instructions)
-            return MARGINS_OPERAND;
+            return MARGINS_REFUSED_OPERAND;
         f->output[i] = (uint16_t)name;
     }
     if (end - bit >= 8 || window(bytes, length, bit) != 0)
-        return MARGINS_PADDING;
+        return MARGINS_REFUSED_PADDING;
     return MARGINS_DONE;
 }
 
@@ -169,12 +169,12 @@ margins_reply baseline_plain(const uint8_t *bytes, size_t length,
     if (refusal)
         return refused(refusal, 0);
     if (readings_length != f.inputs)
-        return refused(MARGINS_READINGS, 0);
+        return refused(MARGINS_REFUSED_READINGS, 0);
     for (size_t i = 0; i < f.inputs; i++)
         if (size(readings[i]) > M)
-            return refused(MARGINS_READINGS, 0);
+            return refused(MARGINS_REFUSED_READINGS, 0);
     if (work_length < f.inputs + f.instructions || output_length < f.outputs)
-        return refused(MARGINS_NO_ROOM, 0);
+        return refused(MARGINS_REFUSED_NO_ROOM, 0);
 
     for (size_t i = 0; i < f.inputs; i++)
         work[i] = readings[i];
@@ -199,7 +199,7 @@ margins_reply baseline_plain(const uint8_t *bytes, size_t length,
             centre = (work[at->left] * work[at->right] + half) >> f.scale;
         }
         if (size(centre) > M)
-            return refused(MARGINS_OUT_OF_REACH, k);
+            return refused(MARGINS_REFUSED_OUT_OF_REACH, k);
         work[f.inputs + k] = centre;
     }
     for (size_t i = 0; i < f.outputs; i++)
@@ -220,14 +220,14 @@ margins_reply baseline_ball(const uint8_t *bytes, size_t length,
     if (refusal)
         return refused(refusal, 0);
     if (centres_length != f.inputs || margins_length != f.inputs)
-        return refused(MARGINS_READINGS, 0);
+        return refused(MARGINS_REFUSED_READINGS, 0);
     for (size_t i = 0; i < f.inputs; i++)
         if (size(centres[i]) > M || margins[i] < 0 || margins[i] > M - (int64_t)size(centres[i]))
-            return refused(MARGINS_READINGS, 0);
+            return refused(MARGINS_REFUSED_READINGS, 0);
     size_t values = f.inputs + f.instructions;
     if (work_centres_length < values || work_margins_length < values ||
         output_centres_length < f.outputs || output_margins_length < f.outputs)
-        return refused(MARGINS_NO_ROOM, 0);
+        return refused(MARGINS_REFUSED_NO_ROOM, 0);
 
     for (size_t i = 0; i < f.inputs; i++) {
         work_centres[i] = centres[i];
@@ -266,7 +266,7 @@ margins_reply baseline_ball(const uint8_t *bytes, size_t length,
         }
         }
         if (size(centre) + margin > M)
-            return refused(MARGINS_OUT_OF_REACH, k);
+            return refused(MARGINS_REFUSED_OUT_OF_REACH, k);
         work_centres[f.inputs + k] = centre;
         work_margins[f.inputs + k] = margin;
     }
@@ -300,14 +300,14 @@ margins_reply baseline_admit(const uint8_t *bytes, size_t length,
     if (refusal)
         return refused(refusal, 0);
     if (middles_length != f.inputs || strays_length != f.inputs || margins_length != f.inputs)
-        return refused(MARGINS_READINGS, 0);
+        return refused(MARGINS_REFUSED_READINGS, 0);
     for (size_t i = 0; i < f.inputs; i++)
         if (!admissible(middles[i], strays[i], margins[i]))
-            return refused(MARGINS_READINGS, 0);
+            return refused(MARGINS_REFUSED_READINGS, 0);
     size_t values = f.inputs + f.instructions;
     if (work_middles_length < values || work_strays_length < values || work_margins_length < values ||
         output_middles_length < f.outputs || output_strays_length < f.outputs || output_margins_length < f.outputs)
-        return refused(MARGINS_NO_ROOM, 0);
+        return refused(MARGINS_REFUSED_NO_ROOM, 0);
 
     for (size_t i = 0; i < f.inputs; i++) {
         work_middles[i] = middles[i];
@@ -351,7 +351,7 @@ margins_reply baseline_admit(const uint8_t *bytes, size_t length,
         }
         }
         if (size(middle) + stray + margin > M)
-            return refused(MARGINS_OUT_OF_REACH, k);
+            return refused(MARGINS_REFUSED_OUT_OF_REACH, k);
         work_middles[f.inputs + k] = middle;
         work_strays[f.inputs + k] = stray;
         work_margins[f.inputs + k] = margin;

@@ -6,6 +6,9 @@
  * that is all that C cannot promise by itself.
  *
  * Numbers are whole counts of one unit, 2^-F, where F is the formula's scale.
+ *
+ * C sees lists of one type as one and the same: each parameter says which list it is. Where a form with records is offered, a centre
+ * cannot be swapped with its margin.
  */
 #ifndef MARGINS_H
 #define MARGINS_H
@@ -13,39 +16,85 @@
 #include <stddef.h>
 #include <stdint.h>
 
+#if defined(__GNUC__)
+#define MARGINS_MUST_USE __attribute__((warn_unused_result))
+#elif (defined(__cplusplus) && __cplusplus >= 201703L) || (defined(__STDC_VERSION__) && __STDC_VERSION__ >= 202311L)
+#define MARGINS_MUST_USE [[nodiscard]]
+#else
+#define MARGINS_MUST_USE
+#endif
+
+/* C89 has no inline: there an unused function must be allowed to be one. */
+#if defined(__cplusplus) || (defined(__STDC_VERSION__) && __STDC_VERSION__ >= 199901L)
+#define MARGINS_IN_HEADER static inline
+#elif defined(__GNUC__)
+#define MARGINS_IN_HEADER static __attribute__((unused))
+#else
+#define MARGINS_IN_HEADER static
+#endif
+
 #ifdef __cplusplus
 extern "C" {
 #endif
 
-/* Places that are enough for every formula: inputs and outputs 16 each, values 528. */
+/* The version of this interface; it grows when a program written for the one before may need a change. */
+#define MARGINS_INTERFACE 1
+
+/* Enough for every formula. Values are the inputs and the instructions' results; a work list of so many places is never too short. */
 #define MARGINS_MOST_INPUTS 16
 #define MARGINS_MOST_OUTPUTS 16
 #define MARGINS_MOST_VALUES 528
+/* The longest formula: 32 bits of header, 512 constants of 35 bits, 16 outputs of 10 bits. */
+#define MARGINS_MOST_BYTES 2264
 
-/* Why there is no answer. A refusal is one of these numbers, 0 is none. */
+/* Why there is no answer. A refusal is one of these numbers, 0 is none; a later library may give further ones. */
 enum {
     MARGINS_DONE = 0,
-    MARGINS_ENDED = 1,        /* the bytes end inside a field */
-    MARGINS_VERSION = 2,      /* the version isn't 1 */
-    MARGINS_SCALE = 3,        /* the scale is over 30 */
-    MARGINS_COUNT = 4,        /* the number of inputs, instructions or outputs is outside its limits */
-    MARGINS_CODE = 5,         /* the code is 5, 6 or 7 */
-    MARGINS_OPERAND = 6,      /* an operand or output names no permitted value */
-    MARGINS_CONSTANT = 7,     /* a constant is -2^31 */
-    MARGINS_PADDING = 8,      /* a padding bit is set or a byte follows */
-    MARGINS_READINGS = 9,     /* the number of readings isn't that of the inputs, or one is outside its limits */
-    MARGINS_NO_ROOM = 10,     /* a work list or an output list is too short */
-    MARGINS_OUT_OF_REACH = 11 /* a step's result is out of reach; place is the instruction, from 0 */
+    MARGINS_REFUSED_ENDED = 1,         /* the bytes end inside a field */
+    MARGINS_REFUSED_VERSION = 2,       /* the version isn't 1 */
+    MARGINS_REFUSED_SCALE = 3,         /* the scale is over 30 */
+    MARGINS_REFUSED_COUNT = 4,         /* the number of inputs, instructions or outputs is outside its limits */
+    MARGINS_REFUSED_CODE = 5,          /* the code is 5, 6 or 7 */
+    MARGINS_REFUSED_OPERAND = 6,       /* an operand or output names no permitted value */
+    MARGINS_REFUSED_CONSTANT = 7,      /* a constant is -2^31 */
+    MARGINS_REFUSED_PADDING = 8,       /* a padding bit is set or a byte follows */
+    MARGINS_REFUSED_READINGS = 9,      /* the number of readings isn't that of the inputs, or one is outside its limits */
+    MARGINS_REFUSED_NO_ROOM = 10,      /* a work list or an output list is too short */
+    MARGINS_REFUSED_OUT_OF_REACH = 11, /* a step's result is out of reach; place is the instruction, from 0 */
+    MARGINS_REFUSED_FORM = 12          /* the program's input has another form; no function gives it */
 };
 
-/* refusal 0: that many outputs were written. Else no output was written; place is the instruction with 11, and 0 with the others. */
+/* The words of a refusal, for a line of a log; never NULL, and an answer for every number. */
+MARGINS_IN_HEADER const char *margins_refusal_text(uint32_t refusal)
+{
+    switch (refusal) {
+    case MARGINS_DONE: return "no refusal";
+    case MARGINS_REFUSED_ENDED: return "the bytes end inside a field";
+    case MARGINS_REFUSED_VERSION: return "the version isn't 1";
+    case MARGINS_REFUSED_SCALE: return "the scale is over 30";
+    case MARGINS_REFUSED_COUNT: return "the number of inputs, instructions or outputs is outside its limits";
+    case MARGINS_REFUSED_CODE: return "the code is 5, 6 or 7";
+    case MARGINS_REFUSED_OPERAND: return "an operand or output names no permitted value";
+    case MARGINS_REFUSED_CONSTANT: return "a constant is -2^31";
+    case MARGINS_REFUSED_PADDING: return "a padding bit is set or a byte follows";
+    case MARGINS_REFUSED_READINGS: return "the number of readings isn't that of the inputs, or one is outside its limits";
+    case MARGINS_REFUSED_NO_ROOM: return "a work list or an output list is too short";
+    case MARGINS_REFUSED_OUT_OF_REACH: return "a step's result is out of reach";
+    case MARGINS_REFUSED_FORM: return "the program's input has another form";
+    default: return "a refusal that this header does not know";
+    }
+}
+
+/* refusal 0: that many outputs were written, and place is 0. Else no output was written and outputs is 0; place says where: the
+ * instruction, from 0, with MARGINS_REFUSED_OUT_OF_REACH, and 0 with the others. */
 typedef struct {
     uint32_t refusal;
     uint32_t outputs;
     uint64_t place;
 } margins_reply;
 
-/* refusal 0: the bytes are a formula with this scale and so many inputs, outputs and instructions. Else all of them are 0. */
+/* refusal 0: the bytes are a formula with this scale and so many inputs, outputs and instructions. Else all of them are 0; the place of
+ * a check's refusal is 0 and therefore not held. */
 typedef struct {
     uint32_t refusal;
     uint32_t scale;
@@ -54,53 +103,72 @@ typedef struct {
     uint32_t instructions;
 } margins_formula;
 
-/* Are these bytes a formula? */
-margins_formula margins_check(const uint8_t *formula, size_t formula_length);
-
-/* Bare readings. The work list needs inputs + instructions places, the output list a place for each output. After 0 the work list holds
- * all values, after 11 those before the refused instruction; later places, and with the other refusals all, keep what they held. */
-margins_reply margins_plain(const uint8_t *formula, size_t formula_length,
-                            const int64_t *readings, size_t readings_length,
-                            int64_t *work, size_t work_length,
-                            int64_t *output, size_t output_length);
-
-/* A centre and a margin for each reading; for each output a centre and a margin that holds every exact result. */
-margins_reply margins_ball(const uint8_t *formula, size_t formula_length,
-                           const int64_t *centres, size_t centres_length,
-                           const int64_t *margins, size_t margins_length,
-                           int64_t *work_centres, size_t work_centres_length,
-                           uint64_t *work_margins, size_t work_margins_length,
-                           int64_t *output_centres, size_t output_centres_length,
-                           uint64_t *output_margins, size_t output_margins_length);
-
-/* The same with the readings as records, centre beside margin; it answers identically. */
+/* One reading with its margin. */
 typedef struct {
-    int64_t centre;
-    int64_t margin;
+    int64_t centre; /* what was read */
+    int64_t margin; /* how far the truth may be from it, at least 0; |centre| + margin is at most 2147483647 */
 } margins_reading;
 
-margins_reply margins_ball_records(const uint8_t *formula, size_t formula_length,
-                                   const margins_reading *readings, size_t readings_length,
-                                   int64_t *work_centres, size_t work_centres_length,
-                                   uint64_t *work_margins, size_t work_margins_length,
-                                   int64_t *output_centres, size_t output_centres_length,
-                                   uint64_t *output_margins, size_t output_margins_length);
+/* The library hands these over by their layout: a compiler that lays them out otherwise stops here. */
+typedef char margins_reply_has_16_bytes[sizeof(margins_reply) == 16 ? 1 : -1];
+typedef char margins_formula_has_16_bytes[sizeof(margins_formula) == 16 ? 1 : -1];
+typedef char margins_reading_has_16_bytes[sizeof(margins_reading) == 16 ? 1 : -1];
 
-/* A domain, once: for each reading a middle, how far a centre may stray from it, and the largest margin. For each output the middle, the
- * stray of its computed centre and the static margin. A bound on the exact value around the middle is stray plus margin. */
-margins_reply margins_admit(const uint8_t *formula, size_t formula_length,
-                            const int64_t *middles, size_t middles_length,
-                            const int64_t *strays, size_t strays_length,
-                            const int64_t *margins, size_t margins_length,
-                            int64_t *work_middles, size_t work_middles_length,
-                            uint64_t *work_strays, size_t work_strays_length,
-                            uint64_t *work_margins, size_t work_margins_length,
-                            int64_t *output_middles, size_t output_middles_length,
-                            uint64_t *output_strays, size_t output_strays_length,
-                            uint64_t *output_margins, size_t output_margins_length);
+/* In each job: a list of readings has exactly a place for each input; a work list has inputs + instructions places or more
+ * (MARGINS_MOST_VALUES are always enough), an output list a place for each output or more (MARGINS_MOST_OUTPUTS).
+ * After refusal 0 the work lists hold all values, after 11 those before the refused instruction; later places, and with the other
+ * refusals all, keep what they held. */
+
+/* Are these bytes a formula? */
+MARGINS_MUST_USE margins_formula margins_check(
+    const uint8_t *formula, size_t formula_length); /* read: the packed bytes */
+
+/* Bare readings; for each output its centre. */
+MARGINS_MUST_USE margins_reply margins_plain(
+    const uint8_t *formula, size_t formula_length,   /* read: the packed bytes */
+    const int64_t *readings, size_t readings_length, /* read: what was read, one for each input; -2147483647 to 2147483647 */
+    int64_t *work, size_t work_length,               /* written: a centre for each value; inputs + instructions places */
+    int64_t *output, size_t output_length);          /* written: a centre for each output */
+
+/* A centre and a margin for each reading; for each output a centre and a margin that holds every exact result. */
+MARGINS_MUST_USE margins_reply margins_ball_records(
+    const uint8_t *formula, size_t formula_length,           /* read: the packed bytes */
+    const margins_reading *readings, size_t readings_length, /* read: centre beside margin, one record for each input */
+    int64_t *work_centres, size_t work_centres_length,       /* written: a centre for each value; inputs + instructions places */
+    uint64_t *work_margins, size_t work_margins_length,      /* written: a margin for each value; inputs + instructions places */
+    int64_t *output_centres, size_t output_centres_length,   /* written: a centre for each output */
+    uint64_t *output_margins, size_t output_margins_length); /* written: a margin for each output */
+
+/* The same with the readings as two lists; it answers identically. */
+MARGINS_MUST_USE margins_reply margins_ball(
+    const uint8_t *formula, size_t formula_length,           /* read: the packed bytes */
+    const int64_t *centres, size_t centres_length,           /* read: what was read, one for each input */
+    const int64_t *margins, size_t margins_length,           /* read: how far the truth may be from it, one for each input; at least 0 */
+    int64_t *work_centres, size_t work_centres_length,       /* written: a centre for each value; inputs + instructions places */
+    uint64_t *work_margins, size_t work_margins_length,      /* written: a margin for each value; inputs + instructions places */
+    int64_t *output_centres, size_t output_centres_length,   /* written: a centre for each output */
+    uint64_t *output_margins, size_t output_margins_length); /* written: a margin for each output */
+
+/* A domain, once. Readings are inside it when each centre is within its stray of its middle, and each margin at most the domain's.
+ * For each output the middle, the stray of its computed centre and the static margin: an exact result is within the static margin of
+ * the centre that a run computes, and within stray plus margin of the middle. */
+MARGINS_MUST_USE margins_reply margins_admit(
+    const uint8_t *formula, size_t formula_length,           /* read: the packed bytes */
+    const int64_t *middles, size_t middles_length,           /* read: the middle of the centres, one for each input */
+    const int64_t *strays, size_t strays_length,             /* read: how far a centre may be from it, one for each input; at least 0 */
+    const int64_t *margins, size_t margins_length,           /* read: the largest margin of a reading, one for each input; at least 0 */
+    int64_t *work_middles, size_t work_middles_length,       /* written: a middle for each value; inputs + instructions places */
+    uint64_t *work_strays, size_t work_strays_length,        /* written: a stray for each value; inputs + instructions places */
+    uint64_t *work_margins, size_t work_margins_length,      /* written: a static margin for each value; inputs + instructions places */
+    int64_t *output_middles, size_t output_middles_length,   /* written: a middle for each output */
+    uint64_t *output_strays, size_t output_strays_length,    /* written: the stray of its computed centre, for each output */
+    uint64_t *output_margins, size_t output_margins_length); /* written: the static margin, for each output */
 
 #ifdef __cplusplus
 }
 #endif
+
+#undef MARGINS_MUST_USE
+#undef MARGINS_IN_HEADER
 
 #endif

@@ -2,8 +2,13 @@
  * At scale 4 a unit is 1/16. The formula is x*y + x. */
 #include <inttypes.h>
 #include <stdio.h>
+#include <string.h>
 
 #include "margins.h"
+
+#if MARGINS_INTERFACE != 1
+#error "this program is written for interface 1"
+#endif
 
 static const uint8_t formula[] = {0x02, 0x41, 0x00, 0x41, 0x80, 0x00, 0x02, 0x80, 0x20, 0x00, 0x03};
 
@@ -11,40 +16,31 @@ static int64_t work[MARGINS_MOST_VALUES], output[MARGINS_MOST_OUTPUTS];
 static uint64_t work_strays[MARGINS_MOST_VALUES], output_strays[MARGINS_MOST_OUTPUTS];
 static uint64_t work_margins[MARGINS_MOST_VALUES], output_margins[MARGINS_MOST_OUTPUTS];
 
-static const char *reason(uint32_t refusal)
-{
-    switch (refusal) {
-    case MARGINS_ENDED: return "the bytes end inside a field";
-    case MARGINS_VERSION: return "the version isn't 1";
-    case MARGINS_SCALE: return "the scale is over 30";
-    case MARGINS_COUNT: return "a count is outside its limits";
-    case MARGINS_CODE: return "a code means nothing";
-    case MARGINS_OPERAND: return "a name that names no permitted value";
-    case MARGINS_CONSTANT: return "a constant is -2^31";
-    case MARGINS_PADDING: return "something follows the formula";
-    case MARGINS_READINGS: return "a wrong number of readings, or one outside its limits";
-    case MARGINS_NO_ROOM: return "a list is too short";
-    case MARGINS_OUT_OF_REACH: return "a step's result is out of reach";
-    default: return "a refusal that this program does not know";
-    }
-}
-
 static void tell_refusal(const char *job, margins_reply reply)
 {
-    printf("%s: refused %" PRIu32 ", %s", job, reply.refusal, reason(reply.refusal));
-    if (reply.refusal == MARGINS_OUT_OF_REACH)
+    printf("%s: refused %" PRIu32 ", %s", job, reply.refusal, margins_refusal_text(reply.refusal));
+    if (reply.refusal == MARGINS_REFUSED_OUT_OF_REACH)
         printf(", at instruction %" PRIu64, reply.place);
     printf("\n");
 }
 
-static void check(size_t length)
+static void check(const uint8_t *bytes, size_t length)
 {
-    margins_formula found = margins_check(formula, length);
+    margins_formula found = margins_check(bytes, length);
     if (found.refusal)
-        printf("check of %zu bytes: refused %" PRIu32 ", %s\n", length, found.refusal, reason(found.refusal));
+        printf("check of %zu bytes: refused %" PRIu32 ", %s\n", length, found.refusal, margins_refusal_text(found.refusal));
     else
         printf("check of %zu bytes: scale %" PRIu32 ", inputs %u, instructions %" PRIu32 ", outputs %u\n", length, found.scale,
                (unsigned)found.inputs, found.instructions, (unsigned)found.outputs);
+}
+
+/* A header with the largest counts, then instructions and outputs of zero bits alone: constants 0, and value 0 as each output. */
+static void check_longest(void)
+{
+    static const uint8_t header[] = {0x03, 0xE8, 0x40, 0x10};
+    static uint8_t longest[MARGINS_MOST_BYTES];
+    memcpy(longest, header, sizeof header);
+    check(longest, sizeof longest);
 }
 
 static void plain(int64_t x, int64_t y, size_t work_length)
@@ -57,16 +53,27 @@ static void plain(int64_t x, int64_t y, size_t work_length)
         printf("plain: %" PRId64 "\n", output[0]);
 }
 
-static void ball(int64_t x, int64_t x_margin, int64_t y, int64_t y_margin)
+static void ball(margins_reading x, margins_reading y)
 {
-    const int64_t centres[] = {x, y}, margins[] = {x_margin, y_margin};
-    margins_reply reply = margins_ball(formula, sizeof formula, centres, 2, margins, 2, work, MARGINS_MOST_VALUES,
-                                       work_margins, MARGINS_MOST_VALUES, output, MARGINS_MOST_OUTPUTS,
-                                       output_margins, MARGINS_MOST_OUTPUTS);
+    const margins_reading readings[] = {x, y};
+    margins_reply reply = margins_ball_records(formula, sizeof formula, readings, 2, work, MARGINS_MOST_VALUES,
+                                               work_margins, MARGINS_MOST_VALUES, output, MARGINS_MOST_OUTPUTS,
+                                               output_margins, MARGINS_MOST_OUTPUTS);
     if (reply.refusal)
         tell_refusal("ball", reply);
     else
         printf("ball: %" PRId64 " give or take %" PRIu64 "\n", output[0], output_margins[0]);
+}
+
+static void ball_of_two_lists(const int64_t centres[2], const int64_t margins[2])
+{
+    margins_reply reply = margins_ball(formula, sizeof formula, centres, 2, margins, 2, work, MARGINS_MOST_VALUES,
+                                       work_margins, MARGINS_MOST_VALUES, output, MARGINS_MOST_OUTPUTS,
+                                       output_margins, MARGINS_MOST_OUTPUTS);
+    if (reply.refusal)
+        tell_refusal("ball of two lists", reply);
+    else
+        printf("ball of two lists: %" PRId64 " give or take %" PRIu64 "\n", output[0], output_margins[0]);
 }
 
 static void admit(const int64_t middles[2], const int64_t strays[2], const int64_t margins[2])
@@ -84,15 +91,19 @@ static void admit(const int64_t middles[2], const int64_t strays[2], const int64
 
 int main(void)
 {
-    check(sizeof formula);
-    check(sizeof formula - 1);
+    check(formula, sizeof formula);
+    check(formula, sizeof formula - 1);
+    check_longest();
     plain(24, -10, MARGINS_MOST_VALUES);
     plain(24, -10, 3);
     plain(2147483648, -10, MARGINS_MOST_VALUES);
-    ball(24, 3, -10, 2);
-    ball(24, -3, -10, 2);
-    ball(1000000, 0, 1000000, 0);
+    ball((margins_reading){24, 3}, (margins_reading){-10, 2});
+    ball((margins_reading){24, -3}, (margins_reading){-10, 2});
+    ball((margins_reading){1000000, 0}, (margins_reading){1000000, 0});
+    ball_of_two_lists((const int64_t[]){24, -10}, (const int64_t[]){3, 2});
     admit((const int64_t[]){24, -10}, (const int64_t[]){3, 2}, (const int64_t[]){1, 1});
     admit((const int64_t[]){24, -10}, (const int64_t[]){2147483000, 2}, (const int64_t[]){1, 1});
+    for (uint32_t refusal = 0; refusal <= MARGINS_REFUSED_FORM + 1; refusal++)
+        printf("%" PRIu32 ": %s\n", refusal, margins_refusal_text(refusal));
     return 0;
 }

@@ -1,29 +1,38 @@
 //! A logger: the domain is admitted once, then each pair of readings is run with its margins.
-use margins::{admit, ball_records, check, Balls, Matryoshki, Reading};
+use margins::{admit, ball_records, check, LentBalls, Matryoshki, Reading, Refused};
 
 const FORMULA: [u8; 11] = [0x02, 0x41, 0x00, 0x41, 0x80, 0x00, 0x02, 0x80, 0x20, 0x00, 0x03];
 
-fn main() -> Result<(), Box<dyn std::error::Error>> {
-    let formula = check(&FORMULA)?;
-    println!("{formula:?}");
+fn main() -> Result<(), Refused> {
+    admit_the_domain()?;
+    log_the_readings()
+}
 
+/// Room for every formula.
+fn admit_the_domain() -> Result<(), Refused> {
     let (mut work, mut output) = (Matryoshki::default(), Matryoshki::default());
     let count = admit(&FORMULA, &[24, -10], &[3, 2], &[1, 1], work.lent(), output.lent())?;
     for i in 0..count {
         println!("y{i}: middle {}, stray {}, static margin {}", output.middles[i], output.strays[i], output.margins[i]);
     }
+    Ok(())
+}
 
-    let readings = [Reading { centre: 24, margin: 1 }, Reading { centre: -10, margin: 1 }];
-    let (mut work, mut output) = (Balls::default(), Balls::default());
-    let count = ball_records(&FORMULA, &readings, work.lent(), output.lent())?;
-    for i in 0..count {
-        println!("y{i}: {} give or take {}", output.centres[i], output.margins[i]);
-    }
+/// Room for this formula: `check` tells the sizes of the lists.
+fn log_the_readings() -> Result<(), Refused> {
+    let formula = check(&FORMULA)?;
+    println!("{} inputs, work lists of {}, output lists of {}", formula.inputs, formula.values(), formula.outputs);
+    let (mut centres, mut margins) = (vec![0; formula.values()], vec![0; formula.values()]);
+    let mut work = LentBalls { centres: &mut centres, margins: &mut margins };
+    let (mut centres, mut margins) = (vec![0; formula.outputs], vec![0; formula.outputs]);
+    let mut output = LentBalls { centres: &mut centres, margins: &mut margins };
 
-    let far = [Reading { centre: i64::MIN, margin: 0 }; 2];
-    match ball_records(&FORMULA, &far, work.lent(), output.lent()) {
-        Err(refused) => println!("{refused}"),
-        Ok(_) => println!("out of its limits, and answered"),
+    for (first, second) in [(24, -10), (26, -11), (i64::from(i32::MAX) - 1, 16), (i64::MIN, 0)] {
+        let readings = [Reading { centre: first, margin: 1 }, Reading { centre: second, margin: 1 }];
+        match ball_records(&FORMULA, &readings, work.lent(), output.lent()) {
+            Ok(count) => (0..count).for_each(|i| println!("y{i}: {} give or take {}", output.centres[i], output.margins[i])),
+            Err(refused) => println!("{refused}"),
+        }
     }
     Ok(())
 }

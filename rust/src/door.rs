@@ -1,5 +1,5 @@
-//! The C functions of `include/margins.h`, each called once. A slice is what they ask of a list: memory that is there, aligned and, where it
-//! is written, disjoint from every other.
+//! The C functions of `include/margins.h`, each called once. A slice is what they ask of a list: memory that is there, aligned and,
+//! where it is written, disjoint from every other.
 use crate::{Formula, LentBalls, LentMatryoshki, Reading, Refusal, Refused};
 
 #[repr(C)]
@@ -18,89 +18,192 @@ struct Checked {
     instructions: u32,
 }
 
+// Each list's pointer beside its length.
+#[rustfmt::skip]
 extern "C" {
     fn margins_check(formula: *const u8, formula_length: usize) -> Checked;
     fn margins_plain(
-        formula: *const u8, formula_length: usize, readings: *const i64, readings_length: usize,
-        work: *mut i64, work_length: usize, output: *mut i64, output_length: usize,
+        formula: *const u8, formula_length: usize,
+        readings: *const i64, readings_length: usize,
+        work: *mut i64, work_length: usize,
+        output: *mut i64, output_length: usize,
     ) -> Reply;
     fn margins_ball(
-        formula: *const u8, formula_length: usize, centres: *const i64, centres_length: usize, margins: *const i64, margins_length: usize,
-        work_centres: *mut i64, work_centres_length: usize, work_margins: *mut u64, work_margins_length: usize,
-        output_centres: *mut i64, output_centres_length: usize, output_margins: *mut u64, output_margins_length: usize,
+        formula: *const u8, formula_length: usize,
+        centres: *const i64, centres_length: usize,
+        margins: *const i64, margins_length: usize,
+        work_centres: *mut i64, work_centres_length: usize,
+        work_margins: *mut u64, work_margins_length: usize,
+        output_centres: *mut i64, output_centres_length: usize,
+        output_margins: *mut u64, output_margins_length: usize,
     ) -> Reply;
     fn margins_ball_records(
-        formula: *const u8, formula_length: usize, readings: *const Reading, readings_length: usize,
-        work_centres: *mut i64, work_centres_length: usize, work_margins: *mut u64, work_margins_length: usize,
-        output_centres: *mut i64, output_centres_length: usize, output_margins: *mut u64, output_margins_length: usize,
+        formula: *const u8, formula_length: usize,
+        readings: *const Reading, readings_length: usize,
+        work_centres: *mut i64, work_centres_length: usize,
+        work_margins: *mut u64, work_margins_length: usize,
+        output_centres: *mut i64, output_centres_length: usize,
+        output_margins: *mut u64, output_margins_length: usize,
     ) -> Reply;
     fn margins_admit(
-        formula: *const u8, formula_length: usize, middles: *const i64, middles_length: usize, strays: *const i64, strays_length: usize,
-        margins: *const i64, margins_length: usize, work_middles: *mut i64, work_middles_length: usize,
-        work_strays: *mut u64, work_strays_length: usize, work_margins: *mut u64, work_margins_length: usize,
-        output_middles: *mut i64, output_middles_length: usize, output_strays: *mut u64, output_strays_length: usize,
+        formula: *const u8, formula_length: usize,
+        middles: *const i64, middles_length: usize,
+        strays: *const i64, strays_length: usize,
+        margins: *const i64, margins_length: usize,
+        work_middles: *mut i64, work_middles_length: usize,
+        work_strays: *mut u64, work_strays_length: usize,
+        work_margins: *mut u64, work_margins_length: usize,
+        output_middles: *mut i64, output_middles_length: usize,
+        output_strays: *mut u64, output_strays_length: usize,
         output_margins: *mut u64, output_margins_length: usize,
     ) -> Reply;
 }
 
+/// A newer library may give a number that has no name here. It is kept, without its place: nothing here knows what that counts.
+fn refused(number: u32, place: u64) -> Option<Refused> {
+    let refusal = Refusal::numbered(number)?;
+    let place = refusal.place_name().and_then(|_| usize::try_from(place).ok());
+    Some(Refused { refusal, place })
+}
+
 fn told(reply: Reply) -> Result<usize, Refused> {
-    match Refusal::numbered(reply.refusal) {
+    match refused(reply.refusal, reply.place) {
         None => Ok(reply.outputs as usize),
-        Some(refusal) => Err(Refused { refusal, place: reply.place as usize }),
+        Some(refused) => Err(refused),
     }
 }
 
-pub fn check(formula: &[u8]) -> Result<Formula, Refusal> {
-    let c = unsafe { margins_check(formula.as_ptr(), formula.len()) };
-    match Refusal::numbered(c.refusal) {
+fn checked(reply: Checked) -> Result<Formula, Refused> {
+    match refused(reply.refusal, 0) {
         None => Ok(Formula {
-            scale: c.scale,
-            inputs: c.inputs.into(),
-            instructions: c.instructions as usize,
-            outputs: c.outputs.into(),
+            scale: reply.scale,
+            inputs: reply.inputs.into(),
+            instructions: reply.instructions as usize,
+            outputs: reply.outputs.into(),
         }),
-        Some(refusal) => Err(refusal),
+        Some(refused) => Err(refused),
     }
+}
+
+pub fn check(formula: &[u8]) -> Result<Formula, Refused> {
+    // SAFETY: a slice is the memory that the list needs, here and below.
+    checked(unsafe { margins_check(formula.as_ptr(), formula.len()) })
 }
 
 pub fn plain(formula: &[u8], readings: &[i64], work: &mut [i64], output: &mut [i64]) -> Result<usize, Refused> {
     told(unsafe {
         margins_plain(
-            formula.as_ptr(), formula.len(), readings.as_ptr(), readings.len(),
-            work.as_mut_ptr(), work.len(), output.as_mut_ptr(), output.len(),
+            formula.as_ptr(),
+            formula.len(),
+            readings.as_ptr(),
+            readings.len(),
+            work.as_mut_ptr(),
+            work.len(),
+            output.as_mut_ptr(),
+            output.len(),
         )
     })
 }
 
-pub fn ball(formula: &[u8], centres: &[i64], margins: &[i64], work: LentBalls, output: LentBalls) -> Result<usize, Refused> {
+pub fn ball(formula: &[u8], centres: &[i64], margins: &[i64], work: LentBalls<'_>, output: LentBalls<'_>) -> Result<usize, Refused> {
     told(unsafe {
         margins_ball(
-            formula.as_ptr(), formula.len(), centres.as_ptr(), centres.len(), margins.as_ptr(), margins.len(),
-            work.centres.as_mut_ptr(), work.centres.len(), work.margins.as_mut_ptr(), work.margins.len(),
-            output.centres.as_mut_ptr(), output.centres.len(), output.margins.as_mut_ptr(), output.margins.len(),
+            formula.as_ptr(),
+            formula.len(),
+            centres.as_ptr(),
+            centres.len(),
+            margins.as_ptr(),
+            margins.len(),
+            work.centres.as_mut_ptr(),
+            work.centres.len(),
+            work.margins.as_mut_ptr(),
+            work.margins.len(),
+            output.centres.as_mut_ptr(),
+            output.centres.len(),
+            output.margins.as_mut_ptr(),
+            output.margins.len(),
         )
     })
 }
 
-pub fn ball_records(formula: &[u8], readings: &[Reading], work: LentBalls, output: LentBalls) -> Result<usize, Refused> {
+pub fn ball_records(formula: &[u8], readings: &[Reading], work: LentBalls<'_>, output: LentBalls<'_>) -> Result<usize, Refused> {
     told(unsafe {
         margins_ball_records(
-            formula.as_ptr(), formula.len(), readings.as_ptr(), readings.len(),
-            work.centres.as_mut_ptr(), work.centres.len(), work.margins.as_mut_ptr(), work.margins.len(),
-            output.centres.as_mut_ptr(), output.centres.len(), output.margins.as_mut_ptr(), output.margins.len(),
+            formula.as_ptr(),
+            formula.len(),
+            readings.as_ptr(),
+            readings.len(),
+            work.centres.as_mut_ptr(),
+            work.centres.len(),
+            work.margins.as_mut_ptr(),
+            work.margins.len(),
+            output.centres.as_mut_ptr(),
+            output.centres.len(),
+            output.margins.as_mut_ptr(),
+            output.margins.len(),
         )
     })
 }
 
 pub fn admit(
-    formula: &[u8], middles: &[i64], strays: &[i64], margins: &[i64], work: LentMatryoshki, output: LentMatryoshki,
+    formula: &[u8], middles: &[i64], strays: &[i64], margins: &[i64], work: LentMatryoshki<'_>, output: LentMatryoshki<'_>,
 ) -> Result<usize, Refused> {
     told(unsafe {
         margins_admit(
-            formula.as_ptr(), formula.len(), middles.as_ptr(), middles.len(), strays.as_ptr(), strays.len(), margins.as_ptr(), margins.len(),
-            work.middles.as_mut_ptr(), work.middles.len(), work.strays.as_mut_ptr(), work.strays.len(),
-            work.margins.as_mut_ptr(), work.margins.len(), output.middles.as_mut_ptr(), output.middles.len(),
-            output.strays.as_mut_ptr(), output.strays.len(), output.margins.as_mut_ptr(), output.margins.len(),
+            formula.as_ptr(),
+            formula.len(),
+            middles.as_ptr(),
+            middles.len(),
+            strays.as_ptr(),
+            strays.len(),
+            margins.as_ptr(),
+            margins.len(),
+            work.middles.as_mut_ptr(),
+            work.middles.len(),
+            work.strays.as_mut_ptr(),
+            work.strays.len(),
+            work.margins.as_mut_ptr(),
+            work.margins.len(),
+            output.middles.as_mut_ptr(),
+            output.middles.len(),
+            output.strays.as_mut_ptr(),
+            output.strays.len(),
+            output.margins.as_mut_ptr(),
+            output.margins.len(),
         )
     })
+}
+
+#[cfg(test)]
+mod tests {
+    use super::*;
+
+    fn checked_with(refusal: u32) -> Result<Formula, Refused> {
+        checked(Checked { refusal, scale: 0, inputs: 0, outputs: 0, instructions: 0 })
+    }
+
+    #[test]
+    fn only_a_refusal_with_a_named_place_keeps_it() {
+        for number in 1..=20 {
+            let refused = told(Reply { refusal: number, outputs: 0, place: 3 }).unwrap_err();
+            assert_eq!((refused.refusal.number(), refused.place), (number, if number == 11 { Some(3) } else { None }));
+        }
+        assert_eq!(told(Reply { refusal: 0, outputs: 5, place: 0 }), Ok(5));
+    }
+
+    #[test]
+    fn a_later_number_is_a_refusal_and_no_panic() {
+        for number in [12, 13, 14, 15, 255, 1 << 16, u32::MAX] {
+            let expected = Refused { refusal: Refusal::Other(number), place: None };
+            assert_eq!(told(Reply { refusal: number, outputs: 0, place: u64::MAX }), Err(expected));
+            assert_eq!(checked_with(number), Err(expected));
+        }
+    }
+
+    #[test]
+    fn a_checked_refusal_is_that_of_the_runs() {
+        for number in 1..=8 {
+            assert_eq!(checked_with(number).unwrap_err(), told(Reply { refusal: number, outputs: 0, place: 0 }).unwrap_err());
+        }
+    }
 }

@@ -1,84 +1,143 @@
-//! Why there is no answer.
-use std::fmt;
+//! Why there is no answer, and where.
+use core::error::Error;
+use core::fmt;
+use core::hash::{Hash, Hasher};
 
-/// A refusal with the paper's number.
-#[derive(Clone, Copy, Debug, PartialEq, Eq, Hash)]
-#[repr(u32)]
+/// Why there is no answer. Later versions may name more numbers: a match needs a `_` arm. Two refusals are equal when their numbers are.
+#[derive(Clone, Copy, Debug, Eq)]
+#[non_exhaustive]
 pub enum Refusal {
-    /// The bytes end inside a field.
-    Ended = 1,
-    /// The version isn't 1.
-    Version = 2,
-    /// The scale is over 30.
-    Scale = 3,
-    /// The number of inputs, instructions or outputs is outside its limits.
-    Count = 4,
-    /// The code is 5, 6 or 7.
-    Code = 5,
-    /// An operand or output names no permitted value.
-    Operand = 6,
-    /// A constant is -2^31.
-    Constant = 7,
-    /// A padding bit is set or a byte follows.
-    Padding = 8,
-    /// The number of readings isn't that of the inputs, or one is outside its limits.
-    Readings = 9,
-    /// A work list or an output list is too short.
-    NoRoom = 10,
-    /// A step's result is out of reach.
-    OutOfReach = 11,
+    /// 1: the bytes end inside a field.
+    Ended,
+    /// 2: the version isn't 1.
+    Version,
+    /// 3: the scale is over 30.
+    Scale,
+    /// 4: the number of inputs, instructions or outputs is outside its limits.
+    Count,
+    /// 5: the code is 5, 6 or 7.
+    Code,
+    /// 6: an operand or output names no permitted value.
+    Operand,
+    /// 7: a constant is -2^31.
+    Constant,
+    /// 8: a padding bit is set or a byte follows.
+    Padding,
+    /// 9: the number of readings isn't that of the inputs, or one is outside its limits.
+    Readings,
+    /// 10: a work list or an output list is too short.
+    NoRoom,
+    /// 11: a step's result is out of reach.
+    OutOfReach,
+    /// A number that this version has no name for. A later one may name it: rather compare, or ask [`Refusal::number`].
+    Other(u32),
 }
 
-const IN_ORDER: [Refusal; 11] = [
-    Refusal::Ended,
-    Refusal::Version,
-    Refusal::Scale,
-    Refusal::Count,
-    Refusal::Code,
-    Refusal::Operand,
-    Refusal::Constant,
-    Refusal::Padding,
-    Refusal::Readings,
-    Refusal::NoRoom,
-    Refusal::OutOfReach,
-];
-
 impl Refusal {
-    /// The paper's number.
-    pub fn number(self) -> u32 {
-        self as u32
+    /// The number that the documents, the program and the C interface give it.
+    pub const fn number(self) -> u32 {
+        self.entry().0
     }
 
-    /// The library gives no number but these and 0, which is none.
-    pub(crate) fn numbered(number: u32) -> Option<Refusal> {
-        match number {
-            0 => None,
-            _ => Some(IN_ORDER[number as usize - 1]),
+    /// The refusal with this number; 0 is none.
+    pub const fn numbered(number: u32) -> Option<Refusal> {
+        Some(match number {
+            0 => return None,
+            1 => Refusal::Ended,
+            2 => Refusal::Version,
+            3 => Refusal::Scale,
+            4 => Refusal::Count,
+            5 => Refusal::Code,
+            6 => Refusal::Operand,
+            7 => Refusal::Constant,
+            8 => Refusal::Padding,
+            9 => Refusal::Readings,
+            10 => Refusal::NoRoom,
+            11 => Refusal::OutOfReach,
+            _ => Refusal::Other(number),
+        })
+    }
+
+    /// What the place of this refusal counts; without a name here it has no place.
+    pub(crate) const fn place_name(self) -> Option<&'static str> {
+        match self.number() {
+            11 => Some("instruction"),
+            _ => None,
         }
+    }
+
+    const fn entry(self) -> (u32, &'static str) {
+        match self {
+            Refusal::Ended => (1, "the bytes end inside a field"),
+            Refusal::Version => (2, "the version isn't 1"),
+            Refusal::Scale => (3, "the scale is over 30"),
+            Refusal::Count => (4, "the number of inputs, instructions or outputs is outside its limits"),
+            Refusal::Code => (5, "the code is 5, 6 or 7"),
+            Refusal::Operand => (6, "an operand or output names no permitted value"),
+            Refusal::Constant => (7, "a constant is -2^31"),
+            Refusal::Padding => (8, "a padding bit is set or a byte follows"),
+            Refusal::Readings => (9, "the number of readings isn't that of the inputs, or one is outside its limits"),
+            Refusal::NoRoom => (10, "a work list or an output list is too short"),
+            Refusal::OutOfReach => (11, "a step's result is out of reach"),
+            Refusal::Other(number) => (number, "for a reason that this version has no words for"),
+        }
+    }
+}
+
+// By the number, so that `Refusal::Other(13)` stays equal to what the library gives once a later version names 13.
+impl PartialEq for Refusal {
+    fn eq(&self, other: &Self) -> bool {
+        self.number() == other.number()
+    }
+}
+
+impl Hash for Refusal {
+    fn hash<H: Hasher>(&self, state: &mut H) {
+        self.number().hash(state);
     }
 }
 
 impl fmt::Display for Refusal {
     fn fmt(&self, f: &mut fmt::Formatter<'_>) -> fmt::Result {
-        write!(f, "refused {}", self.number())
+        let (number, words) = self.entry();
+        write!(f, "{words} (refused {number})")
     }
 }
 
-impl std::error::Error for Refusal {}
+impl Error for Refusal {}
 
-/// A refusal of a run, and where: the instruction with [`Refusal::OutOfReach`], 0 with the others.
-#[derive(Clone, Copy, Debug, PartialEq, Eq)]
+/// What every function answers when it refuses: why, and where if the refusal has a place.
+///
+/// ```
+/// // Scale 4: value 2 is value 0 times value 1, value 3 is value 2 plus value 0, output 3.
+/// let formula = [0x02, 0x41, 0x00, 0x41, 0x80, 0x00, 0x02, 0x80, 0x20, 0x00, 0x03];
+/// let limit = i64::from(i32::MAX);
+/// let refused = margins::plain(&formula, &[limit, 16], &mut [0; 4], &mut [0; 1]).unwrap_err();
+/// assert_eq!((refused.refusal.number(), refused.place), (11, Some(1)));
+/// assert_eq!(refused.to_string(), "a step's result is out of reach (refused 11), at instruction 1");
+/// ```
+#[derive(Clone, Copy, Debug, PartialEq, Eq, Hash)]
 pub struct Refused {
     /// Why.
     pub refusal: Refusal,
-    /// Where.
-    pub place: usize,
+    /// Where: with [`Refusal::OutOfReach`] the instruction, from 0. The other refusals of this version have no place.
+    pub place: Option<usize>,
+}
+
+impl From<Refusal> for Refused {
+    fn from(refusal: Refusal) -> Self {
+        Refused { refusal, place: None }
+    }
 }
 
 impl fmt::Display for Refused {
     fn fmt(&self, f: &mut fmt::Formatter<'_>) -> fmt::Result {
-        write!(f, "{} at {}", self.refusal, self.place)
+        write!(f, "{}", self.refusal)?;
+        match (self.refusal.place_name(), self.place) {
+            (Some(name), Some(place)) => write!(f, ", at {name} {place}"),
+            _ => Ok(()),
+        }
     }
 }
 
-impl std::error::Error for Refused {}
+impl Error for Refused {}

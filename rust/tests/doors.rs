@@ -6,8 +6,24 @@ const FORMULA: [u8; 11] = [0x02, 0x41, 0x00, 0x41, 0x80, 0x00, 0x02, 0x80, 0x20,
 #[test]
 fn check_tells_the_header() {
     assert_eq!(check(&FORMULA), Ok(Formula { scale: 4, inputs: 2, instructions: 2, outputs: 1 }));
-    assert_eq!(check(&[]), Err(Refusal::Ended));
-    assert_eq!(check(&FORMULA[..10]), Err(Refusal::Ended));
+    assert_eq!(check(&[]), Err(Refusal::Ended.into()));
+    assert_eq!(check(&FORMULA[..10]), Err(Refused { refusal: Refusal::Ended, place: None }));
+}
+
+#[test]
+fn the_sizes_that_check_tells_are_enough_and_no_fewer_are() {
+    let formula = check(&FORMULA).unwrap();
+    let (values, outputs) = (formula.values(), formula.outputs);
+    let no_room = Err(Refusal::NoRoom.into());
+    assert_eq!(plain(&FORMULA, &[24, -10], &mut vec![0; values], &mut vec![0; outputs]), Ok(outputs));
+    assert_eq!(plain(&FORMULA, &[24, -10], &mut vec![0; values - 1], &mut vec![0; outputs]), no_room);
+    assert_eq!(plain(&FORMULA, &[24, -10], &mut vec![0; values], &mut vec![0; outputs - 1]), no_room);
+}
+
+#[test]
+fn the_longest_formula_has_the_most_values() {
+    let most = Formula { scale: 0, inputs: MOST_INPUTS, instructions: 512, outputs: MOST_OUTPUTS };
+    assert_eq!(most.values(), MOST_VALUES);
 }
 
 #[test]
@@ -27,9 +43,18 @@ fn both_ball_doors_answer_identically() {
         let (mut work2, mut output2) = (Balls::default(), Balls::default());
         let other = ball_records(&FORMULA, &readings, work2.lent(), output2.lent());
         assert_eq!(one, other);
-        assert_eq!((work.centres, work.margins), (work2.centres, work2.margins));
-        assert_eq!((output.centres, output.margins), (output2.centres, output2.margins));
+        assert_eq!((work, output), (work2, output2));
     }
+}
+
+#[test]
+fn lent_lists_can_be_lent_on() {
+    let (mut work, mut output) = (Balls::default(), Balls::default());
+    let (mut work, mut output) = (work.lent(), output.lent());
+    for margin in [3, 0] {
+        assert_eq!(ball(&FORMULA, &[24, -10], &[margin, 2], work.lent(), output.lent()), Ok(1));
+    }
+    assert_eq!((output.centres[0], output.margins[0]), (9, 3));
 }
 
 #[test]
@@ -37,15 +62,7 @@ fn admit_gives_nine_nine_four() {
     let (mut work, mut output) = (Matryoshki::default(), Matryoshki::default());
     assert_eq!(admit(&FORMULA, &[24, -10], &[3, 2], &[1, 1], work.lent(), output.lent()), Ok(1));
     assert_eq!((output.middles[0], output.strays[0], output.margins[0]), (9, 9, 4));
-}
-
-#[test]
-fn a_refusal_has_its_number_and_place() {
-    let (mut work, mut output) = ([0; 4], [7; 1]);
-    let limit = i64::from(i32::MAX);
-    let refused = plain(&FORMULA, &[limit, limit], &mut work, &mut output).unwrap_err();
-    assert_eq!((refused.refusal.number(), refused.place, output), (11, 0, [7]));
-    assert_eq!(plain(&FORMULA, &[1], &mut work, &mut output).unwrap_err().refusal, Refusal::Readings);
-    assert_eq!(plain(&FORMULA, &[1, 1], &mut work[..3], &mut output).unwrap_err().refusal, Refusal::NoRoom);
-    assert_eq!(plain(&FORMULA, &[1, 1], &mut [], &mut []).unwrap_err().refusal, Refusal::NoRoom);
+    let mut lent = output.lent();
+    assert_eq!(admit(&FORMULA, &[24, -10], &[0, 0], &[1, 1], work.lent(), lent.lent()), Ok(1));
+    assert_eq!((lent.middles[0], lent.strays[0], lent.margins[0]), (9, 0, 4));
 }

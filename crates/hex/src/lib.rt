@@ -45,7 +45,8 @@ fn byte(a: u8, b: u8) -> Digit
 // The bytes that the text stands for, to the front of `out`.
 pub fn read(s: &[u8], out: &mut [u8]) -> Gathered
     requires { ⌜ length (now s) ≤ length (now out) + length (now out) ⌝ }
-    ensures { λ r. ⌜ Gathers (hex (now (s .entry))) (hex-front (now (s .entry))) (now (out .entry)) (now (out .exit)) r ⌝ }
+    ensures { λ r. ⌜ Gathers (hex (now (s .entry))) (hex-front (now (s .entry)))
+        (now (out .entry)) (now (out .exit)) r ⌝ }
 {
     let mut at = 0;
     let mut n = 0;

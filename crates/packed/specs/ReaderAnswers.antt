@@ -65,7 +65,8 @@ pub record Enough (s : List ℕ) (v : ℕ) (l : Loaded) : Type 0 where
   pub code-there : Reaches s (code-taken l .rest)
   pub constant-there : code-taken l .field ≡ 0 → Reaches s (constant-taken l .rest)
   pub operand-there : 1 ≤ code-taken l .field → code-taken l .field < 5 → Reaches s (first-taken l .rest)
-  pub second-there : 2 ≤ code-taken l .field → code-taken l .field < 5 → first-taken l .field < v → Reaches s (second-taken l .rest)
+  pub second-there : 2 ≤ code-taken l .field → code-taken l .field < 5 → first-taken l .field < v
+      → Reaches s (second-taken l .rest)
 
 -- whether the bytes end inside a field before another refusal is due
 abbrev pub CutShort : List ℕ → ℕ → Loaded → Bool → Type 0

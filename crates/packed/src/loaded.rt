@@ -1,5 +1,5 @@
-// A cursor that carries the bits it has loaded. The format's widths stand here once, each as a method by name that hands
-// back the field with the cursor past it.
+// A cursor that carries the bits it has loaded. The format's widths stand here once, each as a method by name that
+// hands back the field with the cursor past it.
 ghost use mathlib.Core.Path.{_≡_};
 ghost use Prim.Native.Nat.{_*_, _^_, _≤_};
 ghost use lib.Dec.{ltb};

@@ -1,0 +1,93 @@
+//! The lists that a caller lends, and readings as records.
+use crate::MOST_VALUES;
+
+/// One reading with its margin, for [`ball_records`](crate::ball_records).
+#[repr(C)]
+#[derive(Clone, Copy, Debug, Default, PartialEq, Eq, Hash)]
+pub struct Reading {
+    /// What was read.
+    pub centre: i64,
+    /// How far the truth may be from it.
+    pub margin: i64,
+}
+
+/// Lent lists for balls: centres and margins.
+#[derive(Debug, PartialEq, Eq)]
+pub struct LentBalls<'a> {
+    /// A place for each centre.
+    pub centres: &'a mut [i64],
+    /// A place for each margin.
+    pub margins: &'a mut [u64],
+}
+
+impl LentBalls<'_> {
+    /// The same lists, lent on for one run.
+    pub fn lent(&mut self) -> LentBalls<'_> {
+        LentBalls { centres: self.centres, margins: self.margins }
+    }
+}
+
+/// Lent lists for matryoshki: middles, strays and static margins.
+#[derive(Debug, PartialEq, Eq)]
+pub struct LentMatryoshki<'a> {
+    /// A place for each middle.
+    pub middles: &'a mut [i64],
+    /// A place for each stray.
+    pub strays: &'a mut [u64],
+    /// A place for each static margin.
+    pub margins: &'a mut [u64],
+}
+
+impl LentMatryoshki<'_> {
+    /// The same lists, lent on for one run.
+    pub fn lent(&mut self) -> LentMatryoshki<'_> {
+        LentMatryoshki { middles: self.middles, strays: self.strays, margins: self.margins }
+    }
+}
+
+/// Room for the balls of every formula.
+#[derive(Clone, Debug, PartialEq, Eq)]
+pub struct Balls {
+    /// The centres.
+    pub centres: [i64; MOST_VALUES],
+    /// The margins.
+    pub margins: [u64; MOST_VALUES],
+}
+
+// By hand: `core` has no `Default` for lists of more than 32 places.
+impl Default for Balls {
+    fn default() -> Self {
+        Balls { centres: [0; MOST_VALUES], margins: [0; MOST_VALUES] }
+    }
+}
+
+impl Balls {
+    /// All of it, lent.
+    pub fn lent(&mut self) -> LentBalls<'_> {
+        LentBalls { centres: &mut self.centres, margins: &mut self.margins }
+    }
+}
+
+/// Room for the matryoshki of every formula.
+#[derive(Clone, Debug, PartialEq, Eq)]
+pub struct Matryoshki {
+    /// The middles.
+    pub middles: [i64; MOST_VALUES],
+    /// The strays.
+    pub strays: [u64; MOST_VALUES],
+    /// The static margins.
+    pub margins: [u64; MOST_VALUES],
+}
+
+impl Default for Matryoshki {
+    fn default() -> Self {
+        Matryoshki { middles: [0; MOST_VALUES], strays: [0; MOST_VALUES], margins: [0; MOST_VALUES] }
+    }
+}
+
+impl Matryoshki {
+    /// All of it, lent.
+    pub fn lent(&mut self) -> LentMatryoshki<'_> {
+        LentMatryoshki { middles: &mut self.middles, strays: &mut self.strays, margins: &mut self.margins }
+    }
+}

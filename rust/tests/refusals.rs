@@ -1,0 +1,131 @@
+//! A refusal: its number, its place, its words, and what a caller does with it.
+use margins::*;
+use std::error::Error;
+use std::fmt::Debug;
+
+const FORMULA: [u8; 11] = [0x02, 0x41, 0x00, 0x41, 0x80, 0x00, 0x02, 0x80, 0x20, 0x00, 0x03];
+const LIMIT: i64 = i32::MAX as i64;
+
+fn out_of_reach(place: usize) -> Refused {
+    Refused { refusal: Refusal::OutOfReach, place: Some(place) }
+}
+
+#[test]
+fn every_run_tells_the_instruction_that_is_out_of_reach() {
+    let (mut work, mut output) = ([7; 4], [7; 1]);
+    assert_eq!(plain(&FORMULA, &[LIMIT, LIMIT], &mut work, &mut output), Err(out_of_reach(0)));
+    assert_eq!((work, output), ([LIMIT, LIMIT, 7, 7], [7]));
+    assert_eq!(plain(&FORMULA, &[LIMIT, 16], &mut work, &mut output), Err(out_of_reach(1)));
+    assert_eq!((work, output), ([LIMIT, 16, LIMIT, 7], [7]));
+
+    let (mut work, mut output) = (Balls::default(), Balls::default());
+    assert_eq!(ball(&FORMULA, &[LIMIT, 8], &[0, 0], work.lent(), output.lent()), Err(out_of_reach(1)));
+    let readings = [Reading { centre: LIMIT, margin: 0 }, Reading { centre: 8, margin: 0 }];
+    assert_eq!(ball_records(&FORMULA, &readings, work.lent(), output.lent()), Err(out_of_reach(1)));
+    assert_eq!(output, Balls::default());
+
+    let (mut work, mut output) = (Matryoshki::default(), Matryoshki::default());
+    assert_eq!(admit(&FORMULA, &[LIMIT, 8], &[0, 0], &[0, 0], work.lent(), output.lent()), Err(out_of_reach(1)));
+    assert_eq!(output, Matryoshki::default());
+}
+
+#[test]
+fn the_other_refusals_have_no_place() {
+    let (mut work, mut output) = ([7; 4], [7; 1]);
+    assert_eq!(plain(&[], &[], &mut work, &mut output), Err(Refusal::Ended.into()));
+    assert_eq!(plain(&FORMULA, &[1], &mut work, &mut output), Err(Refusal::Readings.into()));
+    assert_eq!(plain(&FORMULA, &[1, i64::MIN], &mut work, &mut output), Err(Refusal::Readings.into()));
+    assert_eq!(plain(&FORMULA, &[1, 1], &mut work[..3], &mut output), Err(Refusal::NoRoom.into()));
+    assert_eq!(plain(&FORMULA, &[1, 1], &mut [], &mut []), Err(Refusal::NoRoom.into()));
+    assert_eq!((work, output), ([7; 4], [7; 1]));
+}
+
+#[test]
+fn check_refuses_with_each_number_of_the_file() {
+    let cut = &FORMULA[..10];
+    let damaged = |byte: usize, value: u8| {
+        let mut bytes = FORMULA;
+        bytes[byte] = value;
+        check(&bytes).unwrap_err()
+    };
+    assert_eq!(check(cut).unwrap_err().refusal, Refusal::Ended);
+    assert_eq!(damaged(0, 0x04).refusal, Refusal::Version);
+    assert_eq!(check(&[0x03, 0xf0, 0, 0]).unwrap_err().refusal, Refusal::Scale);
+    assert_eq!(check(&[0x02, 0x4f, 0xff, 0xff]).unwrap_err().refusal, Refusal::Count);
+    assert_eq!(damaged(4, 0xe0).refusal, Refusal::Code);
+    assert_eq!(damaged(10, 0x07).refusal, Refusal::Operand);
+    let lowest = [0x02, 0x00, 0x00, 0x21, 0x10, 0, 0, 0, 0, 0, 0];
+    assert_eq!(check(&lowest).unwrap_err().refusal, Refusal::Constant);
+    assert_eq!(check(&[&FORMULA[..], &[0]].concat()).unwrap_err().refusal, Refusal::Padding);
+}
+
+#[test]
+fn each_number_has_one_refusal_and_words_of_its_own() {
+    assert_eq!(Refusal::numbered(0), None);
+    assert_eq!(Refusal::Other(11), Refusal::OutOfReach);
+    assert_ne!(Refusal::Other(13), Refusal::OutOfReach);
+    let words: Vec<String> = (1..=11).map(|number| Refusal::numbered(number).unwrap().to_string()).collect();
+    for (number, said) in (1..).zip(&words) {
+        assert_eq!(Refusal::numbered(number).unwrap().number(), number);
+        assert!(said.ends_with(&format!(" (refused {number})")), "{said}");
+        assert_eq!(words.iter().filter(|other| *other == said).count(), 1);
+    }
+}
+
+#[test]
+fn a_later_number_is_kept_and_told() {
+    for number in [12, 13, 4096, u32::MAX] {
+        let refusal = Refusal::numbered(number).unwrap();
+        assert!(matches!(refusal, Refusal::Other(n) if n == number));
+        assert_eq!(refusal.number(), number);
+        let words = format!("for a reason that this version has no words for (refused {number})");
+        assert_eq!((refusal.to_string(), Refused::from(refusal).to_string()), (words.clone(), words));
+    }
+}
+
+#[test]
+fn the_words_say_where() {
+    assert_eq!(out_of_reach(3).to_string(), "a step's result is out of reach (refused 11), at instruction 3");
+    assert_eq!(Refused::from(Refusal::OutOfReach).to_string(), "a step's result is out of reach (refused 11)");
+    assert_eq!(check(&[]).unwrap_err().to_string(), "the bytes end inside a field (refused 1)");
+}
+
+fn checked_and_run(formula: &[u8]) -> Result<i64, Refused> {
+    let header = check(formula)?;
+    let mut output = vec![0; header.outputs];
+    plain(formula, &[24, -10], &mut vec![0; header.values()], &mut output)?;
+    if output[0] < 0 {
+        Err(Refusal::Readings)?;
+    }
+    Ok(output[0])
+}
+
+fn boxed(formula: &[u8]) -> Result<i64, Box<dyn Error + Send + Sync>> {
+    Ok(checked_and_run(formula)?)
+}
+
+#[test]
+fn a_question_mark_goes_from_check_into_the_runs() {
+    assert_eq!(checked_and_run(&FORMULA), Ok(9));
+    assert_eq!(checked_and_run(&[]), Err(Refusal::Ended.into()));
+    assert_eq!(boxed(&[]).unwrap_err().downcast_ref(), Some(&Refused::from(Refusal::Ended)));
+}
+
+fn expected<T: Debug + Clone + PartialEq>() {}
+fn with_default<T: Debug + Clone + PartialEq + Default>() {}
+fn shown<T: Debug + PartialEq>() {}
+fn error<T: core::error::Error + Copy + Send + Sync + 'static>() {}
+
+#[test]
+fn the_types_have_what_a_user_expects() {
+    expected::<Formula>();
+    expected::<Refusal>();
+    expected::<Refused>();
+    with_default::<Reading>();
+    with_default::<Balls>();
+    with_default::<Matryoshki>();
+    shown::<LentBalls<'_>>();
+    shown::<LentMatryoshki<'_>>();
+    error::<Refusal>();
+    error::<Refused>();
+}
