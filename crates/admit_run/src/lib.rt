@@ -8,8 +8,8 @@ ghost use Rattle.running.specs.Ready.{Ready};
 use admitting::carry_out;
 use checking::Checked;
 use checking::checking::check;
+use domain_readings::admit_readings;
 use lists::least_of_three;
-use readings::admit_readings;
 use refusals::Reply;
 use running::tested;
 

@@ -26,7 +26,7 @@ use Rattle.walks.specs.Walks.{Walks}
 use Rattle.outputs.specs.Picking.{Pickable, PicksMatryoshki}
 use Rattle.running.specs.Ready.{Begins, Finishable, Finishes}
 use Rattle.running.proofs.Running.{begun-by, Copied, copied-finishable, copied-kept, finish-pickable, finish-done, outputs-named, values-enough}
-use Rattle.readings.specs.Copying.{Copyable, CopiesDomain}
+use Rattle.domain_readings.specs.Copying.{Copyable, CopiesDomain}
 
 module _ {s : List ℕ} {h : Header} {g : Domain} {work output : MatryoshkaLists} (b : Begins matryoshka-kind s h g (lent matryoshka-kind work output)) where
   let-through : (domain-tested (h .inputs) g ≡ true) × (matryoshki (g .middles) (map natAbs (g .strays)) (map natAbs (g .margins)) ≡ begun-by b .values)

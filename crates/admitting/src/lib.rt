@@ -5,10 +5,10 @@ ghost use Rattle.formulas.specs.Kinds.{matryoshka-kind};
 ghost use Rattle.formulas.specs.Job.{lent, Kept};
 ghost use Rattle.packed.specs.Meaning.{formula};
 ghost use Rattle.running.specs.Ready.{Begins, Finishable, Finishes};
+use domain_readings::copy_domain;
 use formulas::Header;
+use matryoshka_outputs::pick_triples;
 use matryoshka_walk::walk;
-use outputs::pick_triples;
-use readings::copy_domain;
 use refusals::Reply;
 use walks::Walked;
 

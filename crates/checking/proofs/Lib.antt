@@ -1,5 +1,4 @@
 -- The laws of the check, one subject a file.
 pub mod Several
-pub mod Paddings
 pub mod Checks
 pub mod OneCheck

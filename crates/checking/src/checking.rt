@@ -25,7 +25,7 @@ fn pass_body(s: &[u8], h: Header, c: Cursor) -> Passed
     let Passed::At(e) = results else {
         return results;
     };
-    if passing::padded(s, e) {
+    if padding::padded(s, e) {
         return Passed::At(e);
     }
     Passed::Refused(Refusal::Padding)

@@ -1,16 +1,14 @@
-// All the instructions, all the outputs and the padding, tested one after another; only the place after them is kept.
-ghost use mathlib.Core.Path.{_≡_};
-ghost use Prim.Native.Nat.{_+_, _*_, _%_, _^_, _≤_};
-ghost use Rattle.bits.specs.Fields.{before};
-ghost use Rattle.packed.specs.Format.{program, results, is-padding};
+// All the instructions and all the outputs, tested one after another; only the place after them is kept.
+ghost use Prim.Native.Nat.{_*_, _^_, _≤_};
+ghost use Rattle.packed.specs.Format.{program, results};
 ghost use Rattle.checking.specs.CheckAnswers.{PassedOver};
 use bits::Cursor;
 use bits::Field;
 use heading::Passed;
+use near_end::near_end;
+use near_end::read_instruction;
 use packed::InstructionRead;
-use packed::reading::near_end;
-use packed::reading::read_instruction;
-use packed::reading::read_whole;
+use reading::read_whole;
 use refusals::Refusal;
 
 // `count` instructions, the first of which makes value `first`, where the bytes may end inside one.
@@ -80,29 +78,4 @@ pub(crate) fn pass_outputs(s: &[u8], c: Cursor, below: usize, count: usize) -> P
             }
         }
     }
-}
-
-fn low(b: u8, width: u32) -> u64
-    requires { ⌜ width ≤ 8 ⌝ }
-    ensures { λ r. ⌜ r ≡ b % 2 ^ width ⌝ }
-{
-    b as u64 % (1u64 << width)
-}
-
-// Whether the bits left are fewer than eight, and all zero.
-pub(crate) fn padded(s: &[u8], c: Cursor) -> bool
-    requires { ⌜ c .at ≤ 2 ^ 20 ⌝ }
-    ensures { λ r. ⌜ r ≡ is-padding (before (now (s .entry)) c) ⌝ }
-{
-    let at = c.at;
-    if (at + 7) / 8 < s.len() {
-        return false;
-    }
-    if at % 8 == 0 {
-        return true;
-    }
-    if s.len() <= at / 8 {
-        return true;
-    }
-    low(s[at / 8], 8 - (at % 8) as u32) == 0
 }

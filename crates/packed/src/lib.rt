@@ -1,8 +1,8 @@
-// The packed formula: one instruction with its tests, and the instructions of a checked formula.
+// The packed formula: the fields of an instruction, and the instructions of a checked formula.
 use refusals::Refusal;
 
 pub mod loaded;
-pub mod reading;
+pub mod making;
 pub mod walking;
 
 pub enum InstructionRead {

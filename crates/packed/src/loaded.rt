@@ -29,7 +29,7 @@ pub fn load(s: &[u8], c: Cursor) -> Loaded
 }
 
 impl Loaded {
-    pub(crate) fn code(self) -> Taken
+    pub fn code(self) -> Taken
         requires { ⌜ self .at ≤ 2 ^ 31 ⌝ }
         ensures { λ r. ⌜ r ≡ taken 3 self ⌝ }
     {
@@ -42,7 +42,7 @@ impl Loaded {
         }
     }
 
-    pub(crate) fn operand(self) -> Taken
+    pub fn operand(self) -> Taken
         requires { ⌜ self .at ≤ 2 ^ 31 ⌝ }
         ensures { λ r. ⌜ r ≡ taken 10 self ⌝ }
     {
@@ -55,7 +55,7 @@ impl Loaded {
         }
     }
 
-    pub(crate) fn constant(self) -> Taken
+    pub fn constant(self) -> Taken
         requires { ⌜ self .at ≤ 2 ^ 31 ⌝ }
         ensures { λ r. ⌜ r ≡ taken 32 self ⌝ }
     {
@@ -69,14 +69,14 @@ impl Loaded {
     }
 
     // Whether the bytes end before the cursor.
-    pub(crate) fn ended(self, s: &[u8]) -> bool
+    pub fn ended(self, s: &[u8]) -> bool
         requires { ⌜ self .at ≤ 2 ^ 31 ⌝ }
         ensures { λ r. ⌜ r ≡ ltb (8 * length (now (s .entry))) (self .at) ⌝ }
     {
         s.len() < (self.at + 7) / 8
     }
 
-    pub(crate) fn place(self) -> Cursor
+    pub fn place(self) -> Cursor
         ensures { λ r. ⌜ r ≡ place-of self ⌝ }
     {
         Cursor { at: self.at }

@@ -4,8 +4,8 @@ ghost use Prim.Native.Nat.{_^_, _≤_};
 ghost use Rattle.packed.specs.Loading.{place-of, Carries};
 ghost use Rattle.packed.specs.Walk.{Readable, DecodesFrom};
 use crate::loaded::Loaded;
-use crate::reading::combine;
-use crate::reading::signed;
+use crate::making::combine;
+use crate::making::signed;
 use bits::Cursor;
 use formulas::Instruction;
 

@@ -1,6 +1,5 @@
-// The text that the program reads, taken apart: lines, decimal numbers, the job's word.
+// The text that the program reads, taken apart: lines, the job's word; what its parts are read as.
 pub mod finding;
-pub mod numbers;
 pub mod word;
 
 pub enum Found {

@@ -6,7 +6,6 @@ ghost use Rattle.rows.specs.Rows.{row, number-of, chosen};
 use parsing::Found;
 use parsing::Number;
 use parsing::finding::find;
-use parsing::numbers;
 
 // The first number where j is 0, else the later one; both must be numbers.
 fn choose(first: Number, later: Number, j: usize) -> Number

@@ -5,7 +5,7 @@ use borrow.Fn.Kinds.{In}
 use borrow.Fn.PlainCycle.{Measures, is, falls, and}
 use Rattle.parsing.proofs.Cuts.{found-next, next-fits, found-long}
 use Rattle.parsing.proofs.finding.find.Reads as find-reads
-use Rattle.parsing.proofs.numbers.read.Reads as read-reads
+use Rattle.numbers.proofs.read.Reads as read-reads
 use Rattle.rows.proofs.Numbers.{row-more, row-last, row-unended, row-told}
 use Rattle.rows.proofs.row.read.Reads as read
 use Rattle.rows.proofs.row.read.Kinds as read-kinds

@@ -1,7 +1,0 @@
--- `near_end` meets its contract. Assumes nothing.
-use borrow.Author.Needs.{needs}
-use Rattle.packed.proofs.reading.near_end.Statement.{statement}
-use Rattle.packed.proofs.reading.near_end.Tie as tie
-
-pub near-end-spec : {M : Type 1} → statement M
-near-end-spec = tie.close (tie.spec (λ c. search needs) (λ c. search needs))
