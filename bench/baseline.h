@@ -1,4 +1,4 @@
-/* The four jobs by hand in C, with the signatures of margins.h: what the proved library is measured against. */
+/* The four jobs, packing and reading back by hand in C, with the signatures of margins.h: what the proved library is measured against. */
 #ifndef BASELINE_H
 #define BASELINE_H
 
@@ -9,5 +9,7 @@ __typeof__(margins_check) baseline_check;
 __typeof__(margins_plain) baseline_plain;
 __typeof__(margins_ball) baseline_ball;
 __typeof__(margins_admit) baseline_admit;
+__typeof__(margins_pack) baseline_pack;
+__typeof__(margins_unpack) baseline_unpack;
 
 #endif

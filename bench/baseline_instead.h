@@ -3,4 +3,6 @@
 #define margins_plain baseline_plain
 #define margins_ball baseline_ball
 #define margins_admit baseline_admit
+#define margins_pack baseline_pack
+#define margins_unpack baseline_unpack
 #define WITHOUT_RECORDS

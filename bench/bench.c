@@ -9,11 +9,12 @@
 #include <string.h>
 #include <time.h>
 
-enum { CHECK, PLAIN, BALL, ADMIT, JOBS };
+enum { CHECK, PLAIN, BALL, ADMIT, PACK, UNPACK, JOBS };
 enum { BASELINE, LIBRARY, SIDES };
-enum { ROUNDS = 501, BATCH_NANOSECONDS = 20000, TRIED_RUNS = 100, VALUES = MARGINS_MOST_VALUES, OUTPUTS = MARGINS_MOST_OUTPUTS };
+enum { ROUNDS = 501, BATCH_NANOSECONDS = 20000, TRIED_RUNS = 100 };
+enum { VALUES = MARGINS_MOST_VALUES, OUTPUTS = MARGINS_MOST_OUTPUTS, STEPS = MARGINS_MOST_INSTRUCTIONS, BYTES = MARGINS_MOST_BYTES };
 
-static const char *const job_names[JOBS] = {"check", "plain", "ball", "admit"};
+static const char *const job_names[JOBS] = {"check", "plain", "ball", "admit", "pack", "unpack"};
 static const uint32_t growing[] = {16, 64, 256, 512};
 
 /* What a run leaves, cleared before two runs are compared. */
@@ -21,6 +22,8 @@ static struct {
     int64_t work[VALUES], output[OUTPUTS];
     uint64_t work_strays[VALUES], output_strays[OUTPUTS];
     uint64_t work_margins[VALUES], output_margins[OUTPUTS];
+    int64_t codes[STEPS], firsts[STEPS], seconds[STEPS];
+    uint8_t bytes[BYTES];
 } left;
 
 typedef uint32_t run(const workload *w);
@@ -45,14 +48,24 @@ typedef uint32_t run(const workload *w);
         return side##_admit(w->bytes, w->length, w->middles, w->inputs, w->strays, w->inputs, w->margins, w->inputs, left.work, VALUES,  \
                             left.work_strays, VALUES, left.work_margins, VALUES, left.output, OUTPUTS, left.output_strays, OUTPUTS,      \
                             left.output_margins, OUTPUTS).refusal;                                                                       \
+    }                                                                                                                                    \
+    static uint32_t side##_pack_run(const workload *w)                                                                                   \
+    {                                                                                                                                    \
+        return side##_pack(w->scale, w->inputs, w->codes, w->instructions, w->firsts, w->instructions, w->seconds, w->instructions,      \
+                           &w->output, 1, left.bytes, BYTES).refusal;                                                                    \
+    }                                                                                                                                    \
+    static uint32_t side##_unpack_run(const workload *w)                                                                                 \
+    {                                                                                                                                    \
+        return side##_unpack(w->bytes, w->length, left.codes, STEPS, left.firsts, STEPS, left.seconds, STEPS,                            \
+                             left.output, OUTPUTS).refusal;                                                                              \
     }
 
 RUNS(baseline)
 RUNS(margins)
 
 static run *const runs[SIDES][JOBS] = {
-    {baseline_check_run, baseline_plain_run, baseline_ball_run, baseline_admit_run},
-    {margins_check_run, margins_plain_run, margins_ball_run, margins_admit_run},
+    {baseline_check_run, baseline_plain_run, baseline_ball_run, baseline_admit_run, baseline_pack_run, baseline_unpack_run},
+    {margins_check_run, margins_plain_run, margins_ball_run, margins_admit_run, margins_pack_run, margins_unpack_run},
 };
 
 typedef struct {
@@ -73,6 +86,8 @@ static void agree(const workload *w)
         memset(&left, 0, sizeof left);
         if (runs[BASELINE][job](w))
             fail("the baseline refuses", w, job);
+        if (job == PACK && memcmp(left.bytes, w->bytes, sizeof left.bytes))
+            fail("the baseline packs other bytes", w, job);
         kept = left;
         memset(&left, 0, sizeof left);
         if (runs[LIBRARY][job](w))

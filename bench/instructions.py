@@ -4,7 +4,7 @@ import re
 import subprocess
 import sys
 
-JOBS = ("check", "plain", "ball", "admit")
+JOBS = ("check", "plain", "ball", "admit", "pack", "unpack")
 WORKLOADS = ("dot product of 8", "polynomial of degree 15", "mix of 512")
 BASELINE, LIBRARY = 0, 1
 RUNS = 100

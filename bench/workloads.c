@@ -8,7 +8,7 @@ enum { SCALE = 16, UNIT = 1 << SCALE, TERMS = 8, DEGREE = 15, RECENT = 8 };
 /* The formula of a workload while it is packed. */
 typedef struct {
     workload made;
-    size_t bits;
+    size_t bits, listed;
     uint32_t seed;
 } packing;
 
@@ -30,7 +30,7 @@ static void put(packing *p, uint32_t number, int width)
 
 static packing start(uint32_t inputs, uint32_t instructions)
 {
-    packing p = {.made = {.inputs = inputs, .instructions = instructions}, .seed = 1};
+    packing p = {.made = {.scale = SCALE, .inputs = inputs, .instructions = instructions}, .seed = 1};
     put(&p, 1, 7);
     put(&p, SCALE, 5);
     put(&p, inputs, 5);
@@ -44,15 +44,30 @@ static packing start(uint32_t inputs, uint32_t instructions)
     return p;
 }
 
+/* The code is packed, and the instruction is put into the lists. */
+static void instruction(packing *p, uint32_t code, int64_t first, int64_t second)
+{
+    put(p, code, 3);
+    p->made.codes[p->listed] = code;
+    p->made.firsts[p->listed] = first;
+    p->made.seconds[p->listed++] = second;
+}
+
 static void constant(packing *p, int32_t number)
 {
-    put(p, CONSTANT, 3);
+    instruction(p, CONSTANT, number, 0);
     put(p, (uint32_t)number, 32);
+}
+
+static void one(packing *p, uint32_t code, uint32_t operand)
+{
+    instruction(p, code, operand, 0);
+    put(p, operand, 10);
 }
 
 static void two(packing *p, uint32_t code, uint32_t left, uint32_t right)
 {
-    put(p, code, 3);
+    instruction(p, code, left, right);
     put(p, left, 10);
     put(p, right, 10);
 }
@@ -60,7 +75,9 @@ static void two(packing *p, uint32_t code, uint32_t left, uint32_t right)
 /* The last value is the only output. */
 static workload finish(packing *p)
 {
-    put(p, p->made.inputs + p->made.instructions - 1, 10);
+    uint32_t last = p->made.inputs + p->made.instructions - 1;
+    put(p, last, 10);
+    p->made.output = last;
     return p->made;
 }
 
@@ -99,8 +116,7 @@ workload mix(uint32_t instructions)
         if (code == CONSTANT) {
             constant(&p, (int32_t)any(&p, 2 * UNIT) - UNIT);
         } else if (code == NEGATE) {
-            put(&p, code, 3);
-            put(&p, late, 10);
+            one(&p, code, late);
         } else {
             two(&p, code, late, any(&p, p.made.inputs));
         }

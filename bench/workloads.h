@@ -1,4 +1,4 @@
-/* Formulas with readings for the benchmark; every run of them stays in reach. */
+/* Formulas, packed and as lists, with readings for the benchmark; every run of them stays in reach. */
 #ifndef WORKLOADS_H
 #define WORKLOADS_H
 
@@ -6,9 +6,10 @@
 
 typedef struct {
     char name[32];
-    uint8_t bytes[2264];
+    uint8_t bytes[MARGINS_MOST_BYTES];
     size_t length;
-    uint32_t inputs, instructions;
+    uint32_t scale, inputs, instructions;
+    int64_t codes[MARGINS_MOST_INSTRUCTIONS], firsts[MARGINS_MOST_INSTRUCTIONS], seconds[MARGINS_MOST_INSTRUCTIONS], output;
     int64_t middles[MARGINS_MOST_INPUTS], strays[MARGINS_MOST_INPUTS], margins[MARGINS_MOST_INPUTS];
 } workload;
 

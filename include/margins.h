@@ -1,11 +1,11 @@
-/* Packed formulas run on readings, each figure with an honest margin.
+/* Packed formulas run on readings, each figure with an honest margin; and packed from lists, and read back into them.
  *
- * Every function may be called with any bytes, any readings and lists of any length: it answers or refuses, and a refusal
+ * Every function may be called with any bytes, any numbers and lists of any length: it answers or refuses, and a refusal
  * writes no output. Nothing has to be checked first. A list is a pointer and the number of its places. Where that number is 0 the
  * pointer is not used. The memory of a list must be there and aligned for its type, and no list that is written may overlap another;
  * that is all that C cannot promise by itself.
  *
- * Numbers are whole counts of one unit, 2^-F, where F is the formula's scale.
+ * Readings, constants and results are whole counts of one unit, 2^-F, where F is the formula's scale.
  *
  * C sees lists of one type as one and the same: each parameter says which list it is. Where a form with records is offered, a centre
  * cannot be swapped with its margin.
@@ -43,6 +43,7 @@ extern "C" {
 /* Enough for every formula. Values are the inputs and the instructions' results; a work list of so many places is never too short. */
 #define MARGINS_MOST_INPUTS 16
 #define MARGINS_MOST_OUTPUTS 16
+#define MARGINS_MOST_INSTRUCTIONS 512
 #define MARGINS_MOST_VALUES 528
 /* The longest formula: 32 bits of header, 512 constants of 35 bits, 16 outputs of 10 bits. */
 #define MARGINS_MOST_BYTES 2264
@@ -52,14 +53,15 @@ enum {
     MARGINS_DONE = 0,
     MARGINS_REFUSED_ENDED = 1,         /* the bytes end inside a field */
     MARGINS_REFUSED_VERSION = 2,       /* the version isn't 1 */
-    MARGINS_REFUSED_SCALE = 3,         /* the scale is over 30 */
-    MARGINS_REFUSED_COUNT = 4,         /* the number of inputs, instructions or outputs is outside its limits */
-    MARGINS_REFUSED_CODE = 5,          /* the code is 5, 6 or 7 */
+    MARGINS_REFUSED_SCALE = 3,         /* the scale is outside 0 to 30 */
+    MARGINS_REFUSED_COUNT = 4,         /* the number of inputs, instructions or outputs is outside its limits, or the
+                                        * instructions' lists differ in length */
+    MARGINS_REFUSED_CODE = 5,          /* the code is outside 0 to 4 */
     MARGINS_REFUSED_OPERAND = 6,       /* an operand or output names no permitted value */
-    MARGINS_REFUSED_CONSTANT = 7,      /* a constant is -2^31 */
+    MARGINS_REFUSED_CONSTANT = 7,      /* a constant is outside -2147483647 to 2147483647 */
     MARGINS_REFUSED_PADDING = 8,       /* a padding bit is set or a byte follows */
     MARGINS_REFUSED_READINGS = 9,      /* the number of readings isn't that of the inputs, or one is outside its limits */
-    MARGINS_REFUSED_NO_ROOM = 10,      /* a work list or an output list is too short */
+    MARGINS_REFUSED_NO_ROOM = 10,      /* a list to be written is too short */
     MARGINS_REFUSED_OUT_OF_REACH = 11, /* a step's result is out of reach; place is the instruction, from 0 */
     MARGINS_REFUSED_FORM = 12          /* the program's input has another form; no function gives it */
 };
@@ -71,14 +73,16 @@ MARGINS_IN_HEADER const char *margins_refusal_text(uint32_t refusal)
     case MARGINS_DONE: return "no refusal";
     case MARGINS_REFUSED_ENDED: return "the bytes end inside a field";
     case MARGINS_REFUSED_VERSION: return "the version isn't 1";
-    case MARGINS_REFUSED_SCALE: return "the scale is over 30";
-    case MARGINS_REFUSED_COUNT: return "the number of inputs, instructions or outputs is outside its limits";
-    case MARGINS_REFUSED_CODE: return "the code is 5, 6 or 7";
+    case MARGINS_REFUSED_SCALE: return "the scale is outside 0 to 30";
+    case MARGINS_REFUSED_COUNT:
+        return "the number of inputs, instructions or outputs is outside its limits, "
+               "or the instructions' lists differ in length";
+    case MARGINS_REFUSED_CODE: return "the code is outside 0 to 4";
     case MARGINS_REFUSED_OPERAND: return "an operand or output names no permitted value";
-    case MARGINS_REFUSED_CONSTANT: return "a constant is -2^31";
+    case MARGINS_REFUSED_CONSTANT: return "a constant is outside -2147483647 to 2147483647";
     case MARGINS_REFUSED_PADDING: return "a padding bit is set or a byte follows";
     case MARGINS_REFUSED_READINGS: return "the number of readings isn't that of the inputs, or one is outside its limits";
-    case MARGINS_REFUSED_NO_ROOM: return "a work list or an output list is too short";
+    case MARGINS_REFUSED_NO_ROOM: return "a list to be written is too short";
     case MARGINS_REFUSED_OUT_OF_REACH: return "a step's result is out of reach";
     case MARGINS_REFUSED_FORM: return "the program's input has another form";
     default: return "a refusal that this header does not know";
@@ -94,7 +98,7 @@ typedef struct {
 } margins_reply;
 
 /* refusal 0: the bytes are a formula with this scale and so many inputs, outputs and instructions. Else all of them are 0; the place of
- * a check's refusal is 0 and therefore not held. */
+ * a refusal is 0 here and therefore not held. */
 typedef struct {
     uint32_t refusal;
     uint32_t scale;
@@ -102,6 +106,14 @@ typedef struct {
     uint16_t outputs;
     uint32_t instructions;
 } margins_formula;
+
+/* refusal 0: the formula was written into the first `bytes` places. Else nothing was written and bytes is 0. The place is 0 with every
+ * refusal that packing gives. */
+typedef struct {
+    uint32_t refusal;
+    uint32_t bytes;
+    uint64_t place;
+} margins_packed;
 
 /* One reading with its margin. */
 typedef struct {
@@ -112,9 +124,10 @@ typedef struct {
 /* The library hands these over by their layout: a compiler that lays them out otherwise stops here. */
 typedef char margins_reply_has_16_bytes[sizeof(margins_reply) == 16 ? 1 : -1];
 typedef char margins_formula_has_16_bytes[sizeof(margins_formula) == 16 ? 1 : -1];
+typedef char margins_packed_has_16_bytes[sizeof(margins_packed) == 16 ? 1 : -1];
 typedef char margins_reading_has_16_bytes[sizeof(margins_reading) == 16 ? 1 : -1];
 
-/* In each job: a list of readings has exactly a place for each input; a work list has inputs + instructions places or more
+/* In each run: a list of readings has exactly a place for each input; a work list has inputs + instructions places or more
  * (MARGINS_MOST_VALUES are always enough), an output list a place for each output or more (MARGINS_MOST_OUTPUTS).
  * After refusal 0 the work lists hold all values, after 11 those before the refused instruction; later places, and with the other
  * refusals all, keep what they held. */
@@ -163,6 +176,36 @@ MARGINS_MUST_USE margins_reply margins_admit(
     int64_t *output_middles, size_t output_middles_length,   /* written: a middle for each output */
     uint64_t *output_strays, size_t output_strays_length,    /* written: the stray of its computed centre, for each output */
     uint64_t *output_margins, size_t output_margins_length); /* written: the static margin, for each output */
+
+/* A formula as lists. Instruction k has the code codes[k] and the fields firsts[k] and seconds[k]; it makes value inputs + k and may name
+ * only smaller values. The outputs may name any value. */
+enum {
+    MARGINS_CODE_CONSTANT = 0, /* first: the constant, -2147483647 to 2147483647; it has no second */
+    MARGINS_CODE_NEGATE = 1,   /* first: the operand; it has no second */
+    MARGINS_CODE_ADD = 2,      /* first and second: the operands */
+    MARGINS_CODE_SUBTRACT = 3, /* first: the operand from which the second is taken */
+    MARGINS_CODE_MULTIPLY = 4  /* first and second: the operands */
+};
+
+/* Packs the lists. They may hold any numbers; a second field that the code does not have is not looked at. The fields are tested in the
+ * order in which they are written, the room for the bytes last. The places behind the formula keep what they held. */
+MARGINS_MUST_USE margins_packed margins_pack(
+    int64_t scale,                                 /* 0 to 30 */
+    int64_t inputs,                                /* 0 to 16 */
+    const int64_t *codes, size_t codes_length,     /* read: a code for each instruction; 0 to 512 */
+    const int64_t *firsts, size_t firsts_length,   /* read: a first field for each instruction */
+    const int64_t *seconds, size_t seconds_length, /* read: a second field for each instruction */
+    const int64_t *outputs, size_t outputs_length, /* read: the value that each output names; 1 to 16 */
+    uint8_t *formula, size_t formula_length);      /* written: the packed bytes; MARGINS_MOST_BYTES places are always enough */
+
+/* Reads the packed bytes back into lists, which pack to the same bytes. It answers as margins_check does, and refuses lists that are too
+ * short. A second field that the code does not have is 0; places behind the last instruction or output keep what they held. */
+MARGINS_MUST_USE margins_formula margins_unpack(
+    const uint8_t *formula, size_t formula_length, /* read: the packed bytes */
+    int64_t *codes, size_t codes_length,           /* written: a code for each instruction; MARGINS_MOST_INSTRUCTIONS are enough */
+    int64_t *firsts, size_t firsts_length,         /* written: a first field for each instruction; as many */
+    int64_t *seconds, size_t seconds_length,       /* written: a second field for each instruction; as many */
+    int64_t *outputs, size_t outputs_length);      /* written: the value that each output names; MARGINS_MOST_OUTPUTS are enough */
 
 #ifdef __cplusplus
 }

@@ -1,5 +1,6 @@
-/* Runs framed cases from standard input and writes framed replies to standard output; frames.py tells both forms.
- * Each list is allocated at exactly its length, so that a memory checker sees every step beyond it.
+/* Runs framed cases from standard input and writes framed replies to standard output; frames.py and packing_frames.py tell the forms.
+ * Each list is allocated at exactly its length, so that a memory checker sees every step beyond it. In half of the packing cases
+ * sentinels stand behind each list that is written instead, so that a step beyond is seen without a checker.
  * Every second ball case goes through the door over records, which must answer identically. */
 #include "margins.h"
 
@@ -8,13 +9,20 @@
 #include <stdlib.h>
 #include <string.h>
 
-enum { CHECK, PLAIN, BALL, ADMIT };
-enum { MOST_PARTS = 3, BUFFER = 1 << 20 };
+enum { CHECK, PLAIN, BALL, ADMIT, PACK, UNPACK };
+enum { CODES, FIRSTS, SECONDS, OUTPUTS, PACKING_LISTS };
+enum { MOST_PARTS = 3, BEHIND = 8, BUFFER = 1 << 20 };
 
 typedef struct {
     int64_t *places;
     size_t length;
 } list;
+
+/* A formula that is read, and a copy of it. */
+typedef struct {
+    uint8_t *memory, *bytes, *kept;
+    size_t length;
+} packed;
 
 static void stop(const char *why)
 {
@@ -71,23 +79,56 @@ static uint64_t sentinel(size_t list_number, size_t index)
     return x ^ x >> 29;
 }
 
-static list take_readings(void)
+static size_t bytes_of(list of)
+{
+    return of.length * sizeof *of.places;
+}
+
+static list take_list(void)
 {
     list made = {NULL, take_length()};
-    made.places = allocate(made.length * sizeof *made.places);
-    take(made.places, made.length * sizeof *made.places);
+    made.places = allocate(bytes_of(made));
+    take(made.places, bytes_of(made));
     return made;
 }
 
-static list lend(size_t list_number)
+static list copy_list(list of)
+{
+    return (list){copy(of.places, bytes_of(of)), of.length};
+}
+
+static list lend(size_t list_number, size_t behind)
 {
     list made = {NULL, take_length()};
-    made.places = allocate(made.length * sizeof *made.places);
-    for (size_t i = 0; i < made.length; i++) {
+    made.places = allocate((made.length + behind) * sizeof *made.places);
+    for (size_t i = 0; i < made.length + behind; i++) {
         uint64_t held = sentinel(list_number, i);
         memcpy(&made.places[i], &held, sizeof held);
     }
     return made;
+}
+
+static bool kept_behind(list lent, size_t list_number, size_t behind)
+{
+    for (size_t i = lent.length; i < lent.length + behind; i++)
+        if ((uint64_t)lent.places[i] != sentinel(list_number, i))
+            return false;
+    return true;
+}
+
+/* A formula may start at any address. */
+static packed take_formula(size_t number)
+{
+    size_t offset = number % 8, length = take_length();
+    uint8_t *memory = allocate(offset + length), *bytes = length ? memory + offset : NULL;
+    take(bytes, length);
+    return (packed){memory, bytes, copy(bytes, length), length};
+}
+
+static void free_formula(packed formula)
+{
+    free(formula.memory);
+    free(formula.kept);
 }
 
 #ifndef WITHOUT_RECORDS
@@ -112,7 +153,9 @@ static margins_reply run(int job, bool by_records, const uint8_t *formula, size_
     case PLAIN:
         return margins_plain(formula, length, in[0].places, in[0].length, work[0].places, work[0].length, out[0].places, out[0].length);
     case BALL:
-#ifndef WITHOUT_RECORDS
+#ifdef WITHOUT_RECORDS
+        (void)by_records;
+#else
         if (by_records && in[0].length == in[1].length)
             return run_records(formula, length, in, work, out);
 #endif
@@ -129,42 +172,125 @@ static margins_reply run(int job, bool by_records, const uint8_t *formula, size_
 
 static void run_case(int job, size_t number)
 {
-    size_t offset = number % 8;
     list in[MOST_PARTS], kept[MOST_PARTS], lent[2 * MOST_PARTS];
-    size_t parts = (size_t)job, length = take_length();
-    /* A formula may start at any address. */
-    uint8_t *memory = allocate(offset + length), *formula = length ? memory + offset : NULL;
-    take(formula, length);
-    uint8_t *kept_formula = copy(formula, length);
+    size_t parts = (size_t)job;
+    packed formula = take_formula(number);
     for (size_t i = 0; i < parts; i++) {
-        in[i] = take_readings();
-        kept[i] = (list){copy(in[i].places, in[i].length * sizeof *in[i].places), in[i].length};
+        in[i] = take_list();
+        kept[i] = copy_list(in[i]);
     }
     for (size_t i = 0; i < 2 * parts; i++)
-        lent[i] = lend(i);
+        lent[i] = lend(i, 0);
 
     if (job == CHECK) {
-        margins_formula answer = margins_check(formula, length);
+        margins_formula answer = margins_check(formula.bytes, formula.length);
         give(&answer, sizeof answer);
     } else {
-        margins_reply answer = run(job, number % 2, formula, length, in, lent, lent + parts);
+        margins_reply answer = run(job, number % 2, formula.bytes, formula.length, in, lent, lent + parts);
         give(&answer, sizeof answer);
     }
-    uint8_t intact = same(formula, kept_formula, length);
+    uint8_t intact = same(formula.bytes, formula.kept, formula.length);
     for (size_t i = 0; i < parts; i++)
-        intact = intact && same(in[i].places, kept[i].places, in[i].length * sizeof *in[i].places);
+        intact = intact && same(in[i].places, kept[i].places, bytes_of(in[i]));
     give(&intact, sizeof intact);
 
     for (size_t i = 0; i < 2 * parts; i++) {
-        give(lent[i].places, lent[i].length * sizeof *lent[i].places);
+        give(lent[i].places, bytes_of(lent[i]));
         free(lent[i].places);
     }
     for (size_t i = 0; i < parts; i++) {
         free(in[i].places);
         free(kept[i].places);
     }
-    free(memory);
-    free(kept_formula);
+    free_formula(formula);
+}
+
+static size_t places_behind(size_t number)
+{
+    return number / 8 % 2 ? BEHIND : 0;
+}
+
+/* A buffer for a formula, at any address, with sentinels on both sides. */
+typedef struct {
+    uint8_t *memory, *bytes;
+    size_t before, length, whole;
+} buffer;
+
+static uint8_t byte_held(const buffer *b, size_t i)
+{
+    return i < b->before ? (uint8_t)~i : (uint8_t)sentinel(PACKING_LISTS, i - b->before);
+}
+
+static buffer lend_buffer(size_t number)
+{
+    buffer b = {.before = number % 8, .length = take_length()};
+    b.whole = b.before + b.length + places_behind(number);
+    b.memory = allocate(b.whole);
+    b.bytes = b.whole > b.before ? b.memory + b.before : NULL;
+    for (size_t i = 0; i < b.whole; i++)
+        b.memory[i] = byte_held(&b, i);
+    return b;
+}
+
+static bool kept_around(const buffer *b)
+{
+    for (size_t i = 0; i < b->whole; i++)
+        if ((i < b->before || i >= b->before + b->length) && b->memory[i] != byte_held(b, i))
+            return false;
+    return true;
+}
+
+static void pack_case(size_t number)
+{
+    int64_t scale, inputs;
+    list in[PACKING_LISTS], kept[PACKING_LISTS];
+    take(&scale, sizeof scale);
+    take(&inputs, sizeof inputs);
+    for (size_t i = 0; i < PACKING_LISTS; i++) {
+        in[i] = take_list();
+        kept[i] = copy_list(in[i]);
+    }
+    buffer b = lend_buffer(number);
+
+    margins_packed answer = margins_pack(scale, inputs, in[CODES].places, in[CODES].length, in[FIRSTS].places, in[FIRSTS].length,
+                                         in[SECONDS].places, in[SECONDS].length, in[OUTPUTS].places, in[OUTPUTS].length,
+                                         b.bytes, b.length);
+    give(&answer, sizeof answer);
+    uint8_t intact = kept_around(&b);
+    for (size_t i = 0; i < PACKING_LISTS; i++)
+        intact = intact && same(in[i].places, kept[i].places, bytes_of(in[i]));
+    give(&intact, sizeof intact);
+
+    give(b.bytes, b.length);
+    free(b.memory);
+    for (size_t i = 0; i < PACKING_LISTS; i++) {
+        free(in[i].places);
+        free(kept[i].places);
+    }
+}
+
+static void unpack_case(size_t number)
+{
+    list lent[PACKING_LISTS];
+    size_t behind = places_behind(number);
+    packed formula = take_formula(number);
+    for (size_t i = 0; i < PACKING_LISTS; i++)
+        lent[i] = lend(i, behind);
+
+    margins_formula answer = margins_unpack(formula.bytes, formula.length, lent[CODES].places, lent[CODES].length,
+                                            lent[FIRSTS].places, lent[FIRSTS].length, lent[SECONDS].places, lent[SECONDS].length,
+                                            lent[OUTPUTS].places, lent[OUTPUTS].length);
+    give(&answer, sizeof answer);
+    uint8_t intact = same(formula.bytes, formula.kept, formula.length);
+    for (size_t i = 0; i < PACKING_LISTS; i++)
+        intact = intact && kept_behind(lent[i], i, behind);
+    give(&intact, sizeof intact);
+
+    for (size_t i = 0; i < PACKING_LISTS; i++) {
+        give(lent[i].places, bytes_of(lent[i]));
+        free(lent[i].places);
+    }
+    free_formula(formula);
 }
 
 int main(void)
@@ -172,10 +298,15 @@ int main(void)
     setvbuf(stdin, NULL, _IOFBF, BUFFER);
     setvbuf(stdout, NULL, _IOFBF, BUFFER);
     size_t number = 0;
-    for (int job = getchar(); job != EOF; job = getchar()) {
-        if (job > ADMIT)
+    for (int job = getchar(); job != EOF; job = getchar(), number++) {
+        if (job == PACK)
+            pack_case(number);
+        else if (job == UNPACK)
+            unpack_case(number);
+        else if (job <= ADMIT)
+            run_case(job, number);
+        else
             stop("no such job");
-        run_case(job, number++);
     }
     return fflush(stdout) ? 2 : 0;
 }

@@ -5,11 +5,11 @@ import subprocess
 import frames
 
 
-def replies(command, some):
-    """The bytes of each reply, or none where the driver ended early."""
-    asked = b"".join(map(frames.asked, some))
+def replies(command, some, form=frames):
+    """The bytes of each reply, or none where the driver ended early. The form is the module that tells the frames of these cases."""
+    asked = b"".join(map(form.asked, some))
     ended = subprocess.run(command, input=asked, stdout=subprocess.PIPE, check=False)
-    sizes = list(map(frames.reply_size, some))
+    sizes = list(map(form.reply_size, some))
     if ended.returncode or len(ended.stdout) != sum(sizes):
         return None
     found, start = [], 0
@@ -19,12 +19,12 @@ def replies(command, some):
     return found
 
 
-def first_unanswered(command, some):
+def first_unanswered(command, some, form=frames):
     """The first case that the driver does not survive, where it does not survive all of them."""
     answered, unanswered = 0, len(some)
     while unanswered - answered > 1:
         middle = (answered + unanswered) // 2
-        if replies(command, some[:middle]) is None:
+        if replies(command, some[:middle], form) is None:
             unanswered = middle
         else:
             answered = middle

@@ -1,4 +1,4 @@
-"""harden.py DRIVER: the C door under valgrind on a share of the cases and on random bytes and lists; nothing may be found."""
+"""harden.py DRIVER: the C doors under valgrind on a share of the cases and on random bytes, numbers and lists; nothing may be found."""
 
 import random
 import subprocess
@@ -7,36 +7,64 @@ from itertools import islice
 
 import cases
 import frames
+import packing_cases
+import packing_frames
 
 EVERY = 4
 RANDOM = 10000
+RANDOM_PACKING = 4000
 CHECKER = ["valgrind", "--quiet", "--error-exitcode=9", "--leak-check=full"]
+
+
+def random_bytes(rng):
+    data = bytes(rng.randrange(256) for _ in range(rng.choice((0, 1, 3, 4, 5, 11, 40, 300))))
+    if rng.randrange(2):
+        data = bytes((2, rng.randrange(256), rng.randrange(4), rng.randrange(256))) + data
+    return data
 
 
 def random_case(rng):
     """Any bytes, any readings, lists of any length."""
     job = rng.choice(frames.JOBS)
     parts = frames.PARTS[job]
-    data = bytes(rng.randrange(256) for _ in range(rng.choice((0, 1, 3, 4, 5, 11, 40, 300))))
-    if rng.randrange(2):
-        data = bytes((2, rng.randrange(256), rng.randrange(4), rng.randrange(256))) + data
+    data = random_bytes(rng)
     readings = tuple(tuple(rng.randrange(-(1 << 63), 1 << 63) for _ in range(rng.randrange(20))) for _ in range(parts))
     lengths = tuple(rng.choice((0, 1, 2, 17, 530)) for _ in range(2 * parts))
     return frames.Case(job, data, readings, lengths)
 
 
-def main(driver):
-    rng = random.Random(3)
-    some = list(islice(cases.all_cases(), 0, None, EVERY)) + [random_case(rng) for _ in range(RANDOM)]
-    asked = b"".join(map(frames.asked, some))
+def random_number(rng):
+    return rng.randrange(5) if rng.random() < 0.9 else packing_cases.any_number(rng)
+
+
+def random_packing(rng):
+    """Any bytes into lists of any length; any numbers, many of them small, in lists of any length, often of the same."""
+    if rng.randrange(2):
+        return packing_frames.Unpack(random_bytes(rng), tuple(rng.choice((0, 1, 2, 17, 513)) for _ in range(4)))
+    size = rng.choice((0, 1, 2, 9, 513))
+    sizes = [size if rng.random() < 0.9 else rng.randrange(20) for _ in range(3)]
+    lists = [tuple(random_number(rng) for _ in range(length)) for length in (*sizes, rng.choice((0, 1, 2, 16, 17)))]
+    return packing_frames.Pack((random_number(rng), random_number(rng), *lists), rng.choice((0, 5, 6, 40, 2264)))
+
+
+def survived(driver, form, some):
+    """Whether the driver gives the replies that it should to these cases, and the checker finds nothing."""
+    asked = b"".join(map(form.asked, some))
     ended = subprocess.run([*CHECKER, driver], input=asked, stdout=subprocess.PIPE, stderr=subprocess.PIPE, check=False)
-    want = b"".join(frames.wanted(case).reply for case in some)
+    want = b"".join(form.wanted(case).reply for case in some)
     sys.stdout.write(ended.stderr.decode(errors="replace"))
-    good = ended.returncode == 0 and not ended.stderr and ended.stdout == want
     replies = "as they should be" if ended.stdout == want else "not as they should be"
     print(f"{len(some)} cases under valgrind: status {ended.returncode}, replies {replies}")
-    print(f"{int(good)} passed, {int(not good)} failed")
-    return 0 if good else 1
+    return ended.returncode == 0 and not ended.stderr and ended.stdout == want
+
+
+def main(driver):
+    rng = random.Random(3)
+    runs = list(islice(cases.all_cases(), 0, None, EVERY)) + [random_case(rng) for _ in range(RANDOM)]
+    packing = list(islice(packing_cases.all_cases(), 0, None, EVERY)) + [random_packing(rng) for _ in range(RANDOM_PACKING)]
+    good = [survived(driver, frames, runs), survived(driver, packing_frames, packing)]
+    print(f"{good.count(True)} passed, {good.count(False)} failed")
+    return 0 if all(good) else 1
 
 
 if __name__ == "__main__":

@@ -1,4 +1,4 @@
-/* A first program with margins.h: one formula checked, run on readings, and admitted for a whole domain.
+/* A first program with margins.h: one formula checked, run on readings, admitted for a whole domain, packed and read back.
  * At scale 4 a unit is 1/16. The formula is x*y + x. */
 #include <inttypes.h>
 #include <stdio.h>
@@ -89,6 +89,33 @@ static void admit(const int64_t middles[2], const int64_t strays[2], const int64
                output_strays[0], output[0], output_margins[0]);
 }
 
+/* x is value 0 and y value 1; value 2 is their product, and value 3 is that plus x. */
+static void pack(int64_t scale, size_t length)
+{
+    static const int64_t codes[] = {MARGINS_CODE_MULTIPLY, MARGINS_CODE_ADD}, firsts[] = {0, 2}, seconds[] = {1, 0}, outputs[] = {3};
+    uint8_t bytes[MARGINS_MOST_BYTES];
+    margins_packed made = margins_pack(scale, 2, codes, 2, firsts, 2, seconds, 2, outputs, 1, bytes, length);
+    if (made.refusal)
+        printf("pack: refused %" PRIu32 ", %s\n", made.refusal, margins_refusal_text(made.refusal));
+    else
+        printf("pack: %" PRIu32 " bytes, %s formula\n", made.bytes, memcmp(bytes, formula, sizeof formula) ? "another" : "the same");
+}
+
+static void unpack(size_t length)
+{
+    int64_t codes[MARGINS_MOST_INSTRUCTIONS], firsts[MARGINS_MOST_INSTRUCTIONS], seconds[MARGINS_MOST_INSTRUCTIONS];
+    margins_formula found = margins_unpack(formula, sizeof formula, codes, length, firsts, length, seconds, length,
+                                           output, MARGINS_MOST_OUTPUTS);
+    if (found.refusal) {
+        printf("unpack: refused %" PRIu32 ", %s\n", found.refusal, margins_refusal_text(found.refusal));
+        return;
+    }
+    for (uint32_t k = 0; k < found.instructions; k++)
+        printf("unpack: value %" PRIu32 " has code %" PRId64 ", first %" PRId64 ", second %" PRId64 "\n", found.inputs + k, codes[k],
+               firsts[k], seconds[k]);
+    printf("unpack: the output is value %" PRId64 "\n", output[0]);
+}
+
 int main(void)
 {
     check(formula, sizeof formula);
@@ -103,6 +130,11 @@ int main(void)
     ball_of_two_lists((const int64_t[]){24, -10}, (const int64_t[]){3, 2});
     admit((const int64_t[]){24, -10}, (const int64_t[]){3, 2}, (const int64_t[]){1, 1});
     admit((const int64_t[]){24, -10}, (const int64_t[]){2147483000, 2}, (const int64_t[]){1, 1});
+    pack(4, MARGINS_MOST_BYTES);
+    pack(4, sizeof formula - 1);
+    pack(-1, MARGINS_MOST_BYTES);
+    unpack(MARGINS_MOST_INSTRUCTIONS);
+    unpack(1);
     for (uint32_t refusal = 0; refusal <= MARGINS_REFUSED_FORM + 1; refusal++)
         printf("%" PRIu32 ": %s\n", refusal, margins_refusal_text(refusal));
     return 0;

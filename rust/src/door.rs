@@ -1,6 +1,6 @@
 //! The C functions of `include/margins.h`, each called once. A slice is what they ask of a list: memory that is there, aligned and,
 //! where it is written, disjoint from every other.
-use crate::{Formula, LentBalls, LentMatryoshki, Reading, Refusal, Refused};
+use crate::{Formula, LentBalls, LentInstructions, LentMatryoshki, Reading, Refusal, Refused};
 
 #[repr(C)]
 struct Reply {
@@ -16,6 +16,13 @@ struct Checked {
     inputs: u16,
     outputs: u16,
     instructions: u32,
+}
+
+#[repr(C)]
+struct Packed {
+    refusal: u32,
+    bytes: u32,
+    place: u64,
 }
 
 // Each list's pointer beside its length.
@@ -57,6 +64,21 @@ extern "C" {
         output_strays: *mut u64, output_strays_length: usize,
         output_margins: *mut u64, output_margins_length: usize,
     ) -> Reply;
+    fn margins_pack(
+        scale: i64, inputs: i64,
+        codes: *const i64, codes_length: usize,
+        firsts: *const i64, firsts_length: usize,
+        seconds: *const i64, seconds_length: usize,
+        outputs: *const i64, outputs_length: usize,
+        formula: *mut u8, formula_length: usize,
+    ) -> Packed;
+    fn margins_unpack(
+        formula: *const u8, formula_length: usize,
+        codes: *mut i64, codes_length: usize,
+        firsts: *mut i64, firsts_length: usize,
+        seconds: *mut i64, seconds_length: usize,
+        outputs: *mut i64, outputs_length: usize,
+    ) -> Checked;
 }
 
 /// A newer library may give a number that has no name here. It is kept, without its place: nothing here knows what that counts.
@@ -81,6 +103,13 @@ fn checked(reply: Checked) -> Result<Formula, Refused> {
             instructions: reply.instructions as usize,
             outputs: reply.outputs.into(),
         }),
+        Some(refused) => Err(refused),
+    }
+}
+
+fn packed(reply: Packed) -> Result<usize, Refused> {
+    match refused(reply.refusal, reply.place) {
+        None => Ok(reply.bytes as usize),
         Some(refused) => Err(refused),
     }
 }
@@ -174,6 +203,44 @@ pub fn admit(
     })
 }
 
+pub fn pack(
+    scale: i64, inputs: i64, codes: &[i64], firsts: &[i64], seconds: &[i64], outputs: &[i64], formula: &mut [u8],
+) -> Result<usize, Refused> {
+    packed(unsafe {
+        margins_pack(
+            scale,
+            inputs,
+            codes.as_ptr(),
+            codes.len(),
+            firsts.as_ptr(),
+            firsts.len(),
+            seconds.as_ptr(),
+            seconds.len(),
+            outputs.as_ptr(),
+            outputs.len(),
+            formula.as_mut_ptr(),
+            formula.len(),
+        )
+    })
+}
+
+pub fn unpack(formula: &[u8], instructions: LentInstructions<'_>, outputs: &mut [i64]) -> Result<Formula, Refused> {
+    checked(unsafe {
+        margins_unpack(
+            formula.as_ptr(),
+            formula.len(),
+            instructions.codes.as_mut_ptr(),
+            instructions.codes.len(),
+            instructions.firsts.as_mut_ptr(),
+            instructions.firsts.len(),
+            instructions.seconds.as_mut_ptr(),
+            instructions.seconds.len(),
+            outputs.as_mut_ptr(),
+            outputs.len(),
+        )
+    })
+}
+
 #[cfg(test)]
 mod tests {
     use super::*;
@@ -197,13 +264,17 @@ mod tests {
             let expected = Refused { refusal: Refusal::Other(number), place: None };
             assert_eq!(told(Reply { refusal: number, outputs: 0, place: u64::MAX }), Err(expected));
             assert_eq!(checked_with(number), Err(expected));
+            assert_eq!(packed(Packed { refusal: number, bytes: 0, place: u64::MAX }), Err(expected));
         }
     }
 
     #[test]
-    fn a_checked_refusal_is_that_of_the_runs() {
-        for number in 1..=8 {
-            assert_eq!(checked_with(number).unwrap_err(), told(Reply { refusal: number, outputs: 0, place: 0 }).unwrap_err());
+    fn a_refusal_is_the_same_wherever_it_is_given() {
+        for number in 1..=10 {
+            let refused = told(Reply { refusal: number, outputs: 0, place: 0 }).unwrap_err();
+            assert_eq!(checked_with(number), Err(refused));
+            assert_eq!(packed(Packed { refusal: number, bytes: 0, place: 0 }), Err(refused));
         }
+        assert_eq!(packed(Packed { refusal: 0, bytes: 6, place: 0 }), Ok(6));
     }
 }

@@ -1,8 +1,9 @@
 //! Packed formulas run on readings, each figure with an honest margin.
 //!
 //! A formula is a string of bytes. [`check`] says whether bytes are one; [`plain`] runs it on bare readings, [`ball`] on readings with a
-//! margin each, [`admit`] once on a whole domain. Every function may be called with any bytes, any readings and lists of any length: it
-//! answers or refuses, and a refusal writes no output. Numbers are whole counts of one unit, 2^-F, where F is the formula's scale.
+//! margin each, [`admit`] once on a whole domain. [`pack`] makes the bytes of lists of instructions and outputs, [`unpack`] the lists of
+//! bytes. Every function may be called with any bytes, any numbers and lists of any length: it answers or refuses, and a refusal writes no
+//! output. Readings, constants and results are whole counts of one unit, 2^-F, where F is the formula's scale.
 //!
 //! The caller lends the memory: a work list needs a place for each value, an output list one for each output. [`Balls`] and [`Matryoshki`]
 //! have room for every formula; [`check`] tells what one formula needs. After an answer the work list holds all values. After
@@ -23,19 +24,24 @@
 #![no_std]
 #![warn(missing_docs)]
 
+pub mod code;
 mod door;
 mod lists;
 mod refusal;
 
-pub use lists::{Balls, LentBalls, LentMatryoshki, Matryoshki, Reading};
+pub use lists::{Balls, Instructions, LentBalls, LentInstructions, LentMatryoshki, Matryoshki, Reading};
 pub use refusal::{Refusal, Refused};
 
 /// Inputs that a formula has at most.
 pub const MOST_INPUTS: usize = 16;
 /// Outputs that a formula has at most.
 pub const MOST_OUTPUTS: usize = 16;
+/// Instructions that a formula has at most.
+pub const MOST_INSTRUCTIONS: usize = 512;
 /// Values, inputs and instructions together, that a formula has at most.
 pub const MOST_VALUES: usize = 528;
+/// Bytes that a formula has at most.
+pub const MOST_BYTES: usize = 2264;
 
 /// What a formula's header says.
 #[derive(Clone, Copy, Debug, PartialEq, Eq, Hash)]
@@ -106,4 +112,43 @@ pub fn admit(
     formula: &[u8], middles: &[i64], strays: &[i64], margins: &[i64], work: LentMatryoshki<'_>, output: LentMatryoshki<'_>,
 ) -> Result<usize, Refused> {
     door::admit(formula, middles, strays, margins, work, output)
+}
+
+/// Packs lists into the first places of `formula`; the answer is how many bytes it has.
+///
+/// Instruction k has the code `codes[k]`, one of [`code`], and the fields `firsts[k]` and `seconds[k]`. It makes value `inputs + k` and may
+/// name only smaller values; the outputs may name any value. A second field that the code does not have is not looked at. The fields are
+/// tested in the order in which they are written, the room last, and later places of `formula` keep what they held. [`MOST_BYTES`] places
+/// are enough for every formula. Every number may be any: a wrong one gets its refusal.
+///
+/// ```
+/// use margins::code::{ADD, MULTIPLY};
+/// // Value 2 is value 0 times value 1, value 3 is value 2 plus value 0, output 3.
+/// let mut formula = [0; margins::MOST_BYTES];
+/// let bytes = margins::pack(4, 2, &[MULTIPLY, ADD], &[0, 2], &[1, 0], &[3], &mut formula)?;
+/// assert_eq!(formula[..bytes], [0x02, 0x41, 0x00, 0x41, 0x80, 0x00, 0x02, 0x80, 0x20, 0x00, 0x03]);
+/// # Ok::<(), margins::Refused>(())
+/// ```
+pub fn pack(
+    scale: i64, inputs: i64, codes: &[i64], firsts: &[i64], seconds: &[i64], outputs: &[i64], formula: &mut [u8],
+) -> Result<usize, Refused> {
+    door::pack(scale, inputs, codes, firsts, seconds, outputs, formula)
+}
+
+/// Reads a formula back into lists, which [`pack`] to the same bytes; the answer is that of [`check`].
+///
+/// The lists are those of [`pack`]; a second field that the code does not have is 0. Later places keep what they held. [`Instructions`] and
+/// [`MOST_OUTPUTS`] places have room for every formula.
+///
+/// ```
+/// # use margins::code::{ADD, MULTIPLY};
+/// # let bytes = [0x02, 0x41, 0x00, 0x41, 0x80, 0x00, 0x02, 0x80, 0x20, 0x00, 0x03];
+/// let (mut instructions, mut outputs) = (margins::Instructions::default(), [0; margins::MOST_OUTPUTS]);
+/// let formula = margins::unpack(&bytes, instructions.lent(), &mut outputs)?;
+/// assert_eq!(instructions.codes[..formula.instructions], [MULTIPLY, ADD]);
+/// assert_eq!(outputs[..formula.outputs], [3]);
+/// # Ok::<(), margins::Refused>(())
+/// ```
+pub fn unpack(formula: &[u8], instructions: LentInstructions<'_>, outputs: &mut [i64]) -> Result<Formula, Refused> {
+    door::unpack(formula, instructions, outputs)
 }

@@ -1,5 +1,5 @@
 //! The lists that a caller lends, and readings as records.
-use crate::MOST_VALUES;
+use crate::{MOST_INSTRUCTIONS, MOST_VALUES};
 
 /// One reading with its margin, for [`ball_records`](crate::ball_records).
 #[repr(C)]
@@ -42,6 +42,24 @@ impl LentMatryoshki<'_> {
     /// The same lists, lent on for one run.
     pub fn lent(&mut self) -> LentMatryoshki<'_> {
         LentMatryoshki { middles: self.middles, strays: self.strays, margins: self.margins }
+    }
+}
+
+/// Lent lists for the instructions of a formula: a code and two fields for each.
+#[derive(Debug, PartialEq, Eq)]
+pub struct LentInstructions<'a> {
+    /// A place for each code.
+    pub codes: &'a mut [i64],
+    /// A place for each first field.
+    pub firsts: &'a mut [i64],
+    /// A place for each second field.
+    pub seconds: &'a mut [i64],
+}
+
+impl LentInstructions<'_> {
+    /// The same lists, lent on for one formula.
+    pub fn lent(&mut self) -> LentInstructions<'_> {
+        LentInstructions { codes: self.codes, firsts: self.firsts, seconds: self.seconds }
     }
 }
 
@@ -89,5 +107,29 @@ impl Matryoshki {
     /// All of it, lent.
     pub fn lent(&mut self) -> LentMatryoshki<'_> {
         LentMatryoshki { middles: &mut self.middles, strays: &mut self.strays, margins: &mut self.margins }
+    }
+}
+
+/// Room for the instructions of every formula.
+#[derive(Clone, Debug, PartialEq, Eq)]
+pub struct Instructions {
+    /// The codes.
+    pub codes: [i64; MOST_INSTRUCTIONS],
+    /// The first fields.
+    pub firsts: [i64; MOST_INSTRUCTIONS],
+    /// The second fields.
+    pub seconds: [i64; MOST_INSTRUCTIONS],
+}
+
+impl Default for Instructions {
+    fn default() -> Self {
+        Instructions { codes: [0; MOST_INSTRUCTIONS], firsts: [0; MOST_INSTRUCTIONS], seconds: [0; MOST_INSTRUCTIONS] }
+    }
+}
+
+impl Instructions {
+    /// All of it, lent.
+    pub fn lent(&mut self) -> LentInstructions<'_> {
+        LentInstructions { codes: &mut self.codes, firsts: &mut self.firsts, seconds: &mut self.seconds }
     }
 }

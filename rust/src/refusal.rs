@@ -11,21 +11,21 @@ pub enum Refusal {
     Ended,
     /// 2: the version isn't 1.
     Version,
-    /// 3: the scale is over 30.
+    /// 3: the scale is outside 0 to 30.
     Scale,
-    /// 4: the number of inputs, instructions or outputs is outside its limits.
+    /// 4: the number of inputs, instructions or outputs is outside its limits, or the instructions' lists differ in length.
     Count,
-    /// 5: the code is 5, 6 or 7.
+    /// 5: the code is outside 0 to 4.
     Code,
     /// 6: an operand or output names no permitted value.
     Operand,
-    /// 7: a constant is -2^31.
+    /// 7: a constant is outside -2147483647 to 2147483647.
     Constant,
     /// 8: a padding bit is set or a byte follows.
     Padding,
     /// 9: the number of readings isn't that of the inputs, or one is outside its limits.
     Readings,
-    /// 10: a work list or an output list is too short.
+    /// 10: a list to be written is too short.
     NoRoom,
     /// 11: a step's result is out of reach.
     OutOfReach,
@@ -70,14 +70,16 @@ impl Refusal {
         match self {
             Refusal::Ended => (1, "the bytes end inside a field"),
             Refusal::Version => (2, "the version isn't 1"),
-            Refusal::Scale => (3, "the scale is over 30"),
-            Refusal::Count => (4, "the number of inputs, instructions or outputs is outside its limits"),
-            Refusal::Code => (5, "the code is 5, 6 or 7"),
+            Refusal::Scale => (3, "the scale is outside 0 to 30"),
+            Refusal::Count => {
+                (4, "the number of inputs, instructions or outputs is outside its limits, or the instructions' lists differ in length")
+            }
+            Refusal::Code => (5, "the code is outside 0 to 4"),
             Refusal::Operand => (6, "an operand or output names no permitted value"),
-            Refusal::Constant => (7, "a constant is -2^31"),
+            Refusal::Constant => (7, "a constant is outside -2147483647 to 2147483647"),
             Refusal::Padding => (8, "a padding bit is set or a byte follows"),
             Refusal::Readings => (9, "the number of readings isn't that of the inputs, or one is outside its limits"),
-            Refusal::NoRoom => (10, "a work list or an output list is too short"),
+            Refusal::NoRoom => (10, "a list to be written is too short"),
             Refusal::OutOfReach => (11, "a step's result is out of reach"),
             Refusal::Other(number) => (number, "for a reason that this version has no words for"),
         }

@@ -22,7 +22,7 @@ fn the_sizes_that_check_tells_are_enough_and_no_fewer_are() {
 
 #[test]
 fn the_longest_formula_has_the_most_values() {
-    let most = Formula { scale: 0, inputs: MOST_INPUTS, instructions: 512, outputs: MOST_OUTPUTS };
+    let most = Formula { scale: 0, inputs: MOST_INPUTS, instructions: MOST_INSTRUCTIONS, outputs: MOST_OUTPUTS };
     assert_eq!(most.values(), MOST_VALUES);
 }
 

@@ -124,8 +124,10 @@ fn the_types_have_what_a_user_expects() {
     with_default::<Reading>();
     with_default::<Balls>();
     with_default::<Matryoshki>();
+    with_default::<Instructions>();
     shown::<LentBalls<'_>>();
     shown::<LentMatryoshki<'_>>();
+    shown::<LentInstructions<'_>>();
     error::<Refusal>();
     error::<Refused>();
 }

@@ -3,7 +3,7 @@ ghost use Prim.Native.Nat.{_≤_};
 ghost use lib.ListN.{length};
 ghost use Rattle.formulas.specs.Readings.{domain};
 ghost use Rattle.formulas.specs.Kinds.{matryoshka-kind};
-ghost use Rattle.printing.specs.Written.{Wrote};
+ghost use Rattle.lists.specs.Written.{Wrote};
 ghost use Rattle.listing.specs.OutputLines.{matryoshka-fields};
 ghost use Rattle.telling.specs.Program.{kind-text};
 use admit_run::run;

@@ -17,8 +17,8 @@ use Rattle.parsing.specs.Lines.{some-then}
 use Rattle.parsing.specs.Word.{Job, admit}
 use Rattle.parsing.specs.ParsingAnswers.{Gathers}
 use Rattle.rows.specs.Rows.{column, rows-of, column-of, column-front}
-use Rattle.printing.specs.Written.{Wrote}
-use Rattle.printing.proofs.Again.{wrote-same}
+use Rattle.lists.specs.Written.{Wrote}
+use Rattle.lists.proofs.Again.{wrote-same}
 use Rattle.listing.specs.OutputLines.{plain-fields, ball-fields, matryoshka-fields}
 use Rattle.telling.specs.Program.{refused-text, another-form, kind-text}
 use Rattle.telling.specs.Program.{job-text, if-rows}

@@ -1,5 +1,5 @@
 // Reading lines of which two columns are read: a ball job, or an admit job with a third.
-ghost use Rattle.printing.specs.Written.{Wrote};
+ghost use Rattle.lists.specs.Written.{Wrote};
 ghost use Rattle.columns_text.specs.JobLines.{lines-text};
 ghost use Rattle.columns_text.specs.ColumnsRead.{SecondRead};
 use parsing::Gathered;

@@ -14,8 +14,8 @@ use Rattle.whole.proofs.Machine.{back}
 use Rattle.rules.specs.declared.Matryoshka.{Matryoshka}
 use Rattle.rules.specs.Matryoshki.{matryoshka}
 use Rattle.printing.specs.Decimal.{decimal, signed-decimal}
-use Rattle.printing.specs.Written.{Wrote}
-use Rattle.printing.proofs.Again.{wrote-then, wrote-same, wrote-long, wrote-nothing}
+use Rattle.lists.specs.Written.{Wrote}
+use Rattle.lists.proofs.Again.{wrote-then, wrote-same, wrote-long, wrote-nothing}
 use Rattle.printing.proofs.Digits.{decimal-short, signed-short}
 use Rattle.listing.specs.OutputLines.{field-if, shown, line}
 

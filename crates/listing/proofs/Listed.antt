@@ -17,8 +17,8 @@ use Rattle.rules.specs.declared.Matryoshka.{Matryoshka}
 use Rattle.rules.specs.Matryoshki.{matryoshka}
 use Rattle.rules.specs.Lists.{balls, matryoshki}
 use Rattle.printing.specs.Decimal.{digits-of, decimal, signed-decimal}
-use Rattle.printing.specs.Written.{Wrote}
-use Rattle.printing.proofs.Again.{wrote-long, wrote-then, wrote-same, wrote-nothing}
+use Rattle.lists.specs.Written.{Wrote}
+use Rattle.lists.proofs.Again.{wrote-long, wrote-then, wrote-same, wrote-nothing}
 use Rattle.listing.specs.OutputLines.{plain-fields, ball-fields, matryoshka-fields, line, listed}
 use Rattle.listing.specs.OutputLines.{field-if, shown, first-lines, Listable}
 use Rattle.listing.proofs.Line.{line-short}

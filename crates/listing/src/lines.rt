@@ -2,7 +2,7 @@
 ghost use Prim.Native.Nat.{_+_, _≤_};
 ghost use lib.ListN.{length};
 ghost use Rattle.rules.specs.Matryoshki.{matryoshka};
-ghost use Rattle.printing.specs.Written.{Wrote};
+ghost use Rattle.lists.specs.Written.{Wrote};
 ghost use Rattle.listing.specs.OutputLines.{field-if, shown, line};
 use printing::bytes::put;
 use printing::numbers::put_marked;

@@ -2,7 +2,7 @@
 ghost use Prim.Native.Nat.{_+_, _≤_};
 ghost use lib.ListN.{length, take};
 ghost use Rattle.rules.specs.Lists.{balls, matryoshki};
-ghost use Rattle.printing.specs.Written.{Wrote};
+ghost use Rattle.lists.specs.Written.{Wrote};
 ghost use Rattle.listing.specs.OutputLines.{plain-fields, ball-fields, matryoshka-fields, listed};
 ghost use Rattle.listing.specs.OutputLines.{first-lines, Listable};
 use crate::lines::put_line;

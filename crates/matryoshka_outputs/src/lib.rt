@@ -1,4 +1,5 @@
-// The outputs of matryoshki: the values that the output fields name, each field read once for all lists that it is picked into.
+// The outputs of matryoshki: the values that the output fields name, each field read once for all lists that it is
+// picked into.
 ghost use Rattle.rules.specs.Lists.{matryoshka-lists};
 ghost use Rattle.formulas.specs.Kinds.{matryoshka-kind};
 ghost use Rattle.packed.specs.Meaning.{meant};

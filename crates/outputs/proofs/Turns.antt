@@ -92,7 +92,7 @@ module _ {s : List ℕ} {c : Cursor} {count n m : ℕ} (p : Pickable s c count n
   results-named : meant s .results ≡ named count (before s c)
   results-named = sym (p .at-outputs .are) ∙ read-all .are
 
-  results-many : length (meant s .results) ≡ count
+  pub results-many : length (meant s .results) ≡ count
   results-many = ap length results-named ∙ length-named count (before s c)
 
   all-picked : {A : Type 0} {z : A} {work old now : List A} {k : ℕ} → count ≤ k → Picked z s c count work old now k
@@ -115,7 +115,7 @@ module _ {s : List ℕ} {c : Cursor} {count n m : ℕ} (p : Pickable s c count n
       never-ends e = no-value (sym (by-case (field-answer s) reads e) ∙ field-got 10 (before s at) (there more))
 
       module _ {o : ℕ} {next : Cursor} (got : r ≡ Got o next) where
-        is-output : o ≡ getD (meant s .results) k 0
+        pub is-output : o ≡ getD (meant s .results) k 0
         is-output =
             ap (λ (x : Read ℕ). x .got) (same-value (sym (by-case (field-answer s) reads got) ∙ field-got 10 (before s at) (there more)))
             ∙ sym (ap (λ (os : List ℕ). getD os k 0) results-named ∙ named-at count k (before s c) more ∙ ap (λ (cs : List ℕ). number (take 10 cs)) here)

@@ -62,7 +62,7 @@ gives-bind (at-once {a} h) r = r a h
 gives-bind (on-asking s) r = on-asking (λ n t l. gives-bind (s n t l) r)
 
 -- a permitted number is in its range
-in-range : (lo hi n : ℕ) → from-below lo hi n ≡ true → (lo ≤ n) × (n < hi)
+pub in-range : (lo hi n : ℕ) → from-below lo hi n ≡ true → (lo ≤ n) × (n < hi)
 in-range lo hi n e = let b = both (leb lo n) (ltb n hi) e in (leb-true lo n (b .0), ltb-true n hi (b .1))
 
 in-limits : (F m l n : ℕ) → from-below 0 31 F ≡ true → from-below 0 17 m ≡ true → from-below 0 513 l ≡ true

@@ -2,7 +2,7 @@
 ghost use Prim.Native.Nat.{_≤_};
 ghost use lib.ListN.{length};
 ghost use Rattle.formulas.specs.Kinds.{plain-kind};
-ghost use Rattle.printing.specs.Written.{Wrote};
+ghost use Rattle.lists.specs.Written.{Wrote};
 ghost use Rattle.listing.specs.OutputLines.{plain-fields};
 ghost use Rattle.telling.specs.Program.{kind-text};
 use listing::outputs::put_plain;

@@ -17,8 +17,8 @@ use mir.ValLaws.{toZ-ofZ}
 use Rattle.whole.proofs.Machine.{back}
 use Rattle.whole.proofs.Cases.{never}
 use Rattle.printing.specs.Decimal.{digits-of, decimal, signed-decimal}
-use Rattle.printing.specs.Written.{Wrote}
-use Rattle.printing.proofs.Again.{wrote-long, wrote-then, wrote-same}
+use Rattle.lists.specs.Written.{Wrote}
+use Rattle.lists.proofs.Again.{wrote-long, wrote-then, wrote-same}
 
 abbrev last : ℕ → List ℕ
 last n = (48 + n % 10) ∷ []

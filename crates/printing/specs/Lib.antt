@@ -1,3 +1,2 @@
--- Decimal numbers as bytes, and what a list holds after bytes were written into it.
+-- Decimal numbers as bytes.
 pub mod Decimal
-pub mod Written

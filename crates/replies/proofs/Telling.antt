@@ -4,7 +4,6 @@ use mathlib.Core.List.{List}
 use Prim.Native.Nat.{ℕ, _≤_}
 use native.Mathlib.Omega.{arith}
 use lib.ListN.{length, getD, length-map}
-use Rattle.whole.proofs.Cases.{by-case}
 use Rattle.refusals.specs.declared.Refusal.{Refusal}
 use Rattle.refusals.specs.declared.Reply.{Reply}
 use Rattle.refusals.specs.declared.Reply.the-variants.{Done, Refused}
@@ -27,7 +26,7 @@ use Rattle.checking.specs.declared.Checked.the-variants as checked
 use Rattle.checking.specs.CheckAnswers.{check-answer}
 use Rattle.replies.specs.declared.MarginsReply.{MarginsReply}
 use Rattle.replies.specs.declared.MarginsFormula.{MarginsFormula}
-use Rattle.replies.specs.Doors.{margins-reply, margins-formula, outputs-told, Door}
+use Rattle.replies.specs.Doors.{margins-reply, margins-formula, outputs-told, CheckedInLimits, Door}
 
 job-few : (K : Kind) (s : List ℕ) (given : K .Readings) (work output : ℕ) → outputs-told (said (job K (formula s) given work output)) ≤ 16
 job-few K s given work output = by-start (start K (formula s) given work output) refl
@@ -75,12 +74,23 @@ pub told-refused : {q : Reply} {why : Refusal} {n k : ℕ} {r : MarginsReply} �
 told-refused {k = k} e m t = e ∙ ap (λ (n : ℕ). record { refusal = n; outputs = 0; place = k }) m ∙ sym (ap (λ t. margins-reply (reply-said t)) t)
 
 -- a header, or the refusal
-module _ (c : Checked) (s : List ℕ) (checks : check-answer c ≡ checked s) where
-  pub checked-limits : {h : Header} → c ≡ checked.Formula h → InLimits h
-  checked-limits t = limits-of (formed s (by-case check-answer checks t))
+pub known-limits : (c : Checked) {h : Header} → CheckedInLimits c → c ≡ checked.Formula h → InLimits h
+known-limits c l e = subst CheckedInLimits e l
 
-  pub told-formula : {h : Header} {r : MarginsFormula} → r ≡ margins-formula (value h) → c ≡ checked.Formula h → r ≡ margins-formula (checked s)
-  told-formula e t = e ∙ sym (ap margins-formula (by-case check-answer checks t))
+pub told-formula : {c : Checked} {h : Header} {r : MarginsFormula} → r ≡ margins-formula (value h) → c ≡ checked.Formula h
+    → r ≡ margins-formula (check-answer c)
+told-formula e t = e ∙ sym (ap (λ (x : Checked). margins-formula (check-answer x)) t)
 
-  pub told-unread : {q : Refusal} {n : ℕ} → n ≡ refusal-number q → c ≡ checked.Refused q → margins-formula (refused n) ≡ margins-formula (checked s)
-  told-unread e t = ap (λ (n : ℕ). margins-formula (refused n)) e ∙ sym (ap margins-formula (by-case check-answer checks t))
+pub told-unread : {c : Checked} {q : Refusal} {n : ℕ} → n ≡ refusal-number q → c ≡ checked.Refused q
+    → margins-formula (refused n) ≡ margins-formula (check-answer c)
+told-unread e t =
+    ap (λ (n : ℕ). margins-formula (refused n)) e ∙ sym (ap (λ (x : Checked). margins-formula (check-answer x)) t)
+
+-- what was checked
+pub checked-limits : (c : Checked) (s : List ℕ) → check-answer c ≡ checked s → CheckedInLimits c
+checked-limits (checked.Formula h) s e = limits-of (formed s (sym e))
+checked-limits (checked.Refused r) s e = tt
+
+pub told-checked : (c : Checked) (s : List ℕ) {r : MarginsFormula} → r ≡ margins-formula (check-answer c)
+    → check-answer c ≡ checked s → r ≡ margins-formula (checked s)
+told-checked c s e t = e ∙ ap margins-formula t

@@ -4,9 +4,12 @@ use Prim.Native.Nat.{ℕ}
 use Rattle.refusals.specs.Answer.{Answer, value, refused}
 use Rattle.refusals.specs.Said.{Said, answered, refuses}
 use Rattle.formulas.specs.declared.Header.{Header}
-use Rattle.formulas.specs.Formula.{Formula}
+use Rattle.formulas.specs.Formula as formulas
+use Rattle.formulas.specs.Formula.{InLimits}
 use Rattle.formulas.specs.Kinds.{Kind}
 use Rattle.formulas.specs.Job.{work-of, outputs-of, said, Lent, lent-job}
+use Rattle.checking.specs.declared.Checked.{Checked}
+use Rattle.checking.specs.declared.Checked.the-variants.{Formula, Refused}
 use Rattle.replies.specs.declared.MarginsReply.{MarginsReply}
 use Rattle.replies.specs.declared.MarginsFormula.{MarginsFormula}
 
@@ -20,12 +23,17 @@ margins-formula (value h) =
     record { refusal = 0; scale = h .scale; inputs = h .inputs; outputs = h .outputs; instructions = h .instructions }
 margins-formula (refused n) = record { refusal = n; scale = 0; inputs = 0; outputs = 0; instructions = 0 }
 
+-- a header that was checked is within its limits
+abbrev pub CheckedInLimits : Checked → Type 0
+CheckedInLimits (Formula h) = InLimits h
+CheckedInLimits (Refused r) = Unit {0}
+
 abbrev pub outputs-told : Said → ℕ
 outputs-told (answered n) = n
 outputs-told (refuses n k) = 0
 
 -- the reply, and every place of every lent list
-pub record Door (K : Kind) (a : Answer Formula) (given : K .Readings) (old new : Lent K)
+pub record Door (K : Kind) (a : Answer formulas.Formula) (given : K .Readings) (old new : Lent K)
     (r : MarginsReply) : Type 0 where
   pub tells : r ≡ margins-reply (said (lent-job K a given old))
   pub works : K .Holds (work-of (lent-job K a given old)) (old .work) (new .work)

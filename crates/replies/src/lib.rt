@@ -4,7 +4,9 @@ ghost use Prim.Native.Nat.{_≤_};
 ghost use Rattle.refusals.specs.Answer.{value};
 ghost use Rattle.refusals.specs.Said.{reply-said};
 ghost use Rattle.formulas.specs.Formula.{InLimits};
-ghost use Rattle.replies.specs.Doors.{margins-reply, margins-formula, outputs-told};
+ghost use Rattle.checking.specs.CheckAnswers.{check-answer};
+ghost use Rattle.replies.specs.Doors.{margins-reply, margins-formula, outputs-told, CheckedInLimits};
+use checking::Checked;
 use formulas::Header;
 use refusals::Reply;
 use refusals::number_of;
@@ -51,7 +53,7 @@ pub fn replied(r: Reply) -> MarginsReply
     }
 }
 
-pub fn headed(h: Header) -> MarginsFormula
+fn headed(h: Header) -> MarginsFormula
     requires { ⌜ InLimits h ⌝ }
     ensures { λ x. ⌜ x ≡ margins-formula (value h) ⌝ }
 {
@@ -61,5 +63,21 @@ pub fn headed(h: Header) -> MarginsFormula
         inputs: h.inputs as u16,
         outputs: h.outputs as u16,
         instructions: h.instructions as u32,
+    }
+}
+
+pub fn formula_told(c: Checked) -> MarginsFormula
+    requires { ⌜ CheckedInLimits c ⌝ }
+    ensures { λ x. ⌜ x ≡ margins-formula (check-answer c) ⌝ }
+{
+    match c {
+        Checked::Formula(h) => headed(h),
+        Checked::Refused(r) => MarginsFormula {
+            refusal: number_of(r),
+            scale: 0,
+            inputs: 0,
+            outputs: 0,
+            instructions: 0,
+        },
     }
 }

@@ -1,5 +1,5 @@
 // The three jobs on reading lines, column by column: a job takes as many columns as there are numbers on its lines.
-ghost use Rattle.printing.specs.Written.{Wrote};
+ghost use Rattle.lists.specs.Written.{Wrote};
 ghost use Rattle.columns_text.specs.JobLines.{lines-text};
 ghost use Rattle.columns_text.specs.ColumnsRead.{Lined, FirstRead};
 use columns_text::by_second;

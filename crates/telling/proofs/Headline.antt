@@ -9,8 +9,8 @@ use Rattle.refusals.specs.declared.Reply.{Reply}
 use Rattle.refusals.specs.declared.Reply.the-variants.{Done, Refused}
 use Rattle.refusals.specs.Refusals.{refusal-number}
 use Rattle.printing.specs.Decimal.{decimal}
-use Rattle.printing.specs.Written.{Wrote}
-use Rattle.printing.proofs.Again.{wrote-then, wrote-same, wrote-long}
+use Rattle.lists.specs.Written.{Wrote}
+use Rattle.lists.proofs.Again.{wrote-then, wrote-same, wrote-long}
 use Rattle.printing.proofs.Digits.{decimal-short}
 use Rattle.telling.specs.Program.{refused-word, refused-text, ok-word}
 use Rattle.telling.specs.Telling.{headline}

@@ -20,8 +20,8 @@ use Rattle.formulas.proofs.Jobs.{starts}
 use Rattle.formulas.proofs.Lawful.{Lawful}
 use Rattle.packed.specs.Meaning.{formula}
 use Rattle.packed.proofs.WellFormed.{accepted-well-formed}
-use Rattle.printing.specs.Written.{Wrote}
-use Rattle.printing.proofs.Again.{wrote-then, wrote-same}
+use Rattle.lists.specs.Written.{Wrote}
+use Rattle.lists.proofs.Again.{wrote-then, wrote-same}
 use Rattle.listing.specs.OutputLines.{listed}
 use Rattle.telling.specs.Program.{refused-text, ok-text, text-of, most-values, most-outputs, kind-text}
 use Rattle.telling.specs.Telling.{headline, output-count}

@@ -5,7 +5,7 @@ ghost use Prim.Native.Nat.{_+_, _≤_};
 ghost use lib.ListN.{length};
 ghost use Rattle.refusals.specs.Refusals.{refusal-number};
 ghost use Rattle.printing.specs.Decimal.{decimal};
-ghost use Rattle.printing.specs.Written.{Wrote};
+ghost use Rattle.lists.specs.Written.{Wrote};
 ghost use Rattle.telling.specs.Program.{refused-text};
 ghost use Rattle.telling.specs.Telling.{headline, output-count};
 use printing::bytes::put;

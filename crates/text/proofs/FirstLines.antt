@@ -16,8 +16,8 @@ use Rattle.parsing.specs.Lines.{LF, some-then, lines}
 use Rattle.parsing.specs.Cut.{Halves, cut}
 use Rattle.parsing.specs.ParsingAnswers.{Finds}
 use Rattle.parsing.proofs.Cuts.{lined, lines-cut, found-none, found-at, found-within}
-use Rattle.printing.specs.Written.{Wrote}
-use Rattle.printing.proofs.Again.{wrote-same, wrote-inside}
+use Rattle.lists.specs.Written.{Wrote}
+use Rattle.lists.proofs.Again.{wrote-same, wrote-inside}
 use Rattle.telling.specs.Program.{refused-text, another-form}
 use Rattle.telling.specs.Program.{longest-input, if-lines}
 use Rattle.word_text.specs.Worded.{by-parts}

@@ -3,7 +3,7 @@
 use mathlib.Core.Path.{_≡_}
 use mathlib.Core.List.{List}
 use Prim.Native.Nat.{ℕ}
-use Rattle.printing.proofs.OneWriting.{wrote-one-outcome}
+use Rattle.lists.proofs.OneWriting.{wrote-one-outcome}
 use Rattle.text.specs.Prints.{Prints}
 
 pub answer-one-outcome : {s old out₁ out₂ : List ℕ} {r t : ℕ} → Prints s old out₁ r → Prints s old out₂ t

@@ -4,7 +4,7 @@ use mathlib.Core.Option.{some}
 use Prim.Native.Nat.{ℕ, _≤_}
 use lib.ListN.{length}
 use Rattle.parsing.specs.Lines.{some-then, lines}
-use Rattle.printing.specs.Written.{Wrote}
+use Rattle.lists.specs.Written.{Wrote}
 use Rattle.telling.specs.Program.{if-lines, program-text}
 
 -- what is printed, of an input whose first line is ended

@@ -1,5 +1,5 @@
 // From the program's whole input to its whole output.
-ghost use Rattle.printing.specs.Written.{Wrote};
+ghost use Rattle.lists.specs.Written.{Wrote};
 ghost use Rattle.word_text.specs.Worded.{Short};
 ghost use Rattle.text.specs.Prints.{by-halves, Prints};
 use parsing::Found;

@@ -14,8 +14,8 @@ use Rattle.parsing.specs.Word.{Job, job-named, numbers-on-a-line}
 use Rattle.parsing.specs.ParsingAnswers.{named-answer, Gathers}
 use Rattle.hex.specs.Hex.{hex, hex-front}
 use Rattle.rows.specs.Rows.{each-row}
-use Rattle.printing.specs.Written.{Wrote}
-use Rattle.printing.proofs.Again.{wrote-same}
+use Rattle.lists.specs.Written.{Wrote}
+use Rattle.lists.proofs.Again.{wrote-same}
 use Rattle.telling.specs.Program.{refused-text, another-form}
 use Rattle.telling.specs.Program.{if-rows}
 use Rattle.columns_text.specs.JobLines.{job-with, lines-text}

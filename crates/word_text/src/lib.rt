@@ -1,5 +1,5 @@
 // The formula's line and the job's word, read.
-ghost use Rattle.printing.specs.Written.{Wrote};
+ghost use Rattle.lists.specs.Written.{Wrote};
 ghost use Rattle.word_text.specs.Worded.{by-parts, Short, Numbered};
 use parsing::Gathered;
 use parsing::Named;

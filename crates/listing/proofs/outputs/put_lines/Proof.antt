@@ -1,8 +1,8 @@
 -- `put_lines` meets its contract. The loop's invariant: the lines of the first i values are written. Assumes nothing.
 use Prim.Native.Nat.{_-_, _≤_}
 use borrow.Author.Needs.{needs}
-use Rattle.printing.specs.Written.{Wrote}
-use Rattle.printing.proofs.Again.{wrote-long}
+use Rattle.lists.specs.Written.{Wrote}
+use Rattle.lists.proofs.Again.{wrote-long}
 use Rattle.listing.specs.OutputLines.{first-lines}
 use Rattle.listing.proofs.Listed.{lines-none, lines-room, lines-next, lines-all}
 use Rattle.listing.proofs.outputs.put_lines.Statement.{statement}

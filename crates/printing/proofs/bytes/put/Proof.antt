@@ -1,6 +1,6 @@
 -- `put` meets its contract. Assumes nothing.
 use borrow.Author.Needs.{needs}
-use Rattle.printing.proofs.Again.{wrote-byte}
+use Rattle.lists.proofs.Again.{wrote-byte}
 use Rattle.printing.proofs.bytes.put.Statement.{statement}
 use Rattle.printing.proofs.bytes.put.Tie as tie
 

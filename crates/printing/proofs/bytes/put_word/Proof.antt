@@ -2,8 +2,8 @@
 use Prim.Native.Nat.{_-_, _≤_}
 use borrow.Author.Needs.{needs}
 use lib.ListN.{length, take}
-use Rattle.printing.specs.Written.{Wrote}
-use Rattle.printing.proofs.Again.{wrote-nothing, wrote-room, wrote-next, wrote-whole, wrote-long}
+use Rattle.lists.specs.Written.{Wrote}
+use Rattle.lists.proofs.Again.{wrote-nothing, wrote-room, wrote-next, wrote-whole, wrote-long}
 use Rattle.printing.proofs.bytes.put_word.Statement.{statement}
 use Rattle.printing.proofs.bytes.put_word.Tie as tie
 

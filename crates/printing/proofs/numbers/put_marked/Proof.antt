@@ -1,6 +1,6 @@
 -- `put_marked` meets its contract. Assumes nothing.
 use borrow.Author.Needs.{needs}
-use Rattle.printing.proofs.Again.{wrote-behind}
+use Rattle.lists.proofs.Again.{wrote-behind}
 use Rattle.printing.proofs.numbers.put_marked.Statement.{statement}
 use Rattle.printing.proofs.numbers.put_marked.Tie as tie
 

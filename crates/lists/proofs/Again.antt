@@ -8,7 +8,7 @@ use native.Mathlib.Numerals.{add-one}
 use native.Mathlib.Omega.{arith}
 use lib.ListN.{length, getD, take, drop, set, take-append-drop, length-append, length-drop}
 use lib.Seq.{take-at, take-all, take-suc, drop-at, drop-drop, set-split, append-snoc, length-take-le}
-use Rattle.printing.specs.Written.{written, Wrote}
+use Rattle.lists.specs.Written.{written, Wrote}
 
 module _ (at : ℕ) (a old : List ℕ) (inside : at ≤ length old) where
   head-long : length (take at old ++ a) ≡ at + length a

@@ -1,0 +1,2 @@
+-- What filling lent lists from a checked formula asks, and what stands in them then.
+pub mod Filling

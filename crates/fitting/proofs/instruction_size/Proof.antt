@@ -1,0 +1,23 @@
+-- `instruction_size` meets its contract. Assumes nothing.
+use borrow.Author.Needs.{needs}
+use Rattle.fitting.proofs.Tests.{no-code, constant-fits, constant-unfit, first-unfit, one-fits, two-fit}
+use Rattle.fitting.proofs.Tests.{second-unfit}
+use Rattle.fitting.proofs.instruction_size.Statement.{statement}
+use Rattle.fitting.proofs.instruction_size.Tie as tie
+
+pub instruction-size-spec : {M : Type 1} → statement M
+instruction-size-spec =
+    tie.close
+    (tie.spec
+    (λ c κs. search needs)
+    (λ c. search no-code)
+    (λ c κs. search needs)
+    (λ c κs. search needs)
+    (λ c. search constant-fits)
+    (λ c. search constant-unfit)
+    (λ c κs. search needs)
+    (λ c. search first-unfit)
+    (λ c. search one-fits)
+    (λ c κs. search needs)
+    (λ c. search two-fit)
+    (λ c. search second-unfit))

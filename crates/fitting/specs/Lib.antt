@@ -1,0 +1,2 @@
+-- What the packer's tests answer.
+pub mod Sizes

@@ -1,0 +1,168 @@
+// The packer's tests, in the order in which the fields would be written, and how many bits they take.
+ghost use mathlib.Core.Path.{_≡_};
+ghost use Prim.Native.Nat.{_≤_};
+ghost use lib.ListN.{length};
+ghost use Rattle.packing.specs.Raw.{raw, parts, handed, instructions-of};
+ghost use Rattle.packing.specs.Slots.{header-slots, instruction-slots, program-slots, result-slots};
+ghost use Rattle.fitting.specs.Sizes.{is-below, counted, Sizes, Counts, BodySizes, FormulaSizes};
+use refusals::Refusal;
+use whole::magnitude;
+
+pub enum Size {
+    Bits(usize),
+    Refused(Refusal),
+}
+
+// Whether a number is from 0 on and below `limit`.
+fn below(z: i64, limit: u64) -> bool
+    ensures { λ t. ⌜ t ≡ is-below limit z ⌝ }
+{
+    if z < 0 {
+        return false;
+    }
+    magnitude(z) < limit
+}
+
+// An instruction that makes value `value`.
+fn instruction_size(code: i64, first: i64, second: i64, value: usize) -> Size
+    ensures { λ r. ⌜ Sizes (instruction-slots value (raw code first second)) r ⌝ }
+{
+    if !below(code, 5) {
+        return Size::Refused(Refusal::Code);
+    }
+    let c = magnitude(code);
+    if c == 0 {
+        if magnitude(first) <= 0x7FFF_FFFF {
+            return Size::Bits(35);
+        }
+        return Size::Refused(Refusal::Constant);
+    }
+    if !below(first, value as u64) {
+        return Size::Refused(Refusal::Operand);
+    }
+    if c == 1 {
+        return Size::Bits(13);
+    }
+    if below(second, value as u64) {
+        return Size::Bits(23);
+    }
+    Size::Refused(Refusal::Operand)
+}
+
+// All instructions, the first of which makes value `first`.
+fn program_size(codes: &[i64], firsts: &[i64], seconds: &[i64], inputs: usize) -> Size
+    requires { ⌜ (length (now codes) ≡ length (now firsts)) × (length (now codes) ≡ length (now seconds))
+        × (length (now codes) ≤ 512) × (inputs ≤ 16) ⌝ }
+    ensures { λ r. ⌜ Sizes (program-slots inputs
+        (instructions-of (now (codes .entry)) (now (firsts .entry)) (now (seconds .entry)))) r ⌝ }
+{
+    let mut bits = 0;
+    let mut k = 0;
+    while k < codes.len() {
+        match instruction_size(codes[k], firsts[k], seconds[k], inputs + k) {
+            Size::Refused(r) => return Size::Refused(r),
+            Size::Bits(n) => {
+                bits = bits + n;
+                k = k + 1;
+            }
+        }
+    }
+    Size::Bits(bits)
+}
+
+// All outputs, each naming a value below `values`.
+fn results_size(outputs: &[i64], values: usize) -> Size
+    requires { ⌜ length (now outputs) ≤ 16 ⌝ }
+    ensures { λ r. ⌜ Sizes (result-slots values (now (outputs .entry))) r ⌝ }
+{
+    let mut k = 0;
+    while k < outputs.len() {
+        if !below(outputs[k], values as u64) {
+            return Size::Refused(Refusal::Operand);
+        }
+        k = k + 1;
+    }
+    Size::Bits(10 * k)
+}
+
+// The header. The number of instructions is the length of each of their lists.
+fn header_size(
+    scale: i64,
+    inputs: i64,
+    codes: usize,
+    firsts: usize,
+    seconds: usize,
+    outputs: usize,
+) -> Size
+    ensures { λ r. ⌜ Sizes (header-slots scale inputs (counted codes firsts seconds) outputs) r ⌝ }
+{
+    if !below(scale, 31) {
+        return Size::Refused(Refusal::Scale);
+    }
+    if !below(inputs, 17) {
+        return Size::Refused(Refusal::Count);
+    }
+    if codes != firsts {
+        return Size::Refused(Refusal::Count);
+    }
+    if codes != seconds {
+        return Size::Refused(Refusal::Count);
+    }
+    if 512 < codes {
+        return Size::Refused(Refusal::Count);
+    }
+    if outputs < 1 {
+        return Size::Refused(Refusal::Count);
+    }
+    if 16 < outputs {
+        return Size::Refused(Refusal::Count);
+    }
+    Size::Bits(32)
+}
+
+// What follows a header.
+fn body_size(inputs: usize, codes: &[i64], firsts: &[i64], seconds: &[i64], outputs: &[i64]) -> Size
+    requires { ⌜ Counts inputs (now codes) (now firsts) (now seconds) (now outputs) ⌝ }
+    ensures { λ r. ⌜ BodySizes inputs (now (codes .entry)) (now (firsts .entry)) (now (seconds .entry))
+        (now (outputs .entry)) r ⌝ }
+{
+    let program = program_size(codes, firsts, seconds, inputs);
+    let Size::Bits(n) = program else {
+        return program;
+    };
+    let results = results_size(outputs, inputs + codes.len());
+    let Size::Bits(k) = results else {
+        return results;
+    };
+    Size::Bits(n + k)
+}
+
+// A whole formula: how many bits it takes, or the first refusal.
+pub fn formula_size(
+    scale: i64,
+    inputs: i64,
+    codes: &[i64],
+    firsts: &[i64],
+    seconds: &[i64],
+    outputs: &[i64],
+) -> Size
+    ensures { λ r. ⌜ FormulaSizes (handed scale inputs
+        (parts (now (codes .entry)) (now (firsts .entry)) (now (seconds .entry)) (now (outputs .entry)))) r ⌝ }
+{
+    let header = header_size(
+        scale,
+        inputs,
+        codes.len(),
+        firsts.len(),
+        seconds.len(),
+        outputs.len(),
+    );
+    let Size::Bits(_) = header else {
+        return header;
+    };
+    let body = body_size(magnitude(inputs) as usize, codes, firsts, seconds, outputs);
+    let Size::Bits(n) = body else {
+        return body;
+    };
+    Size::Bits(32 + n)
+}

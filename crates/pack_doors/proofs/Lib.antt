@@ -1,0 +1,3 @@
+-- From a reply to what C is told, and what that fixes.
+pub mod PackTelling
+pub mod OnePackDoor

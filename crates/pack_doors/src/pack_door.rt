@@ -1,0 +1,35 @@
+// The packer for C.
+ghost use Rattle.packing.specs.Raw.{parts, handed};
+ghost use Rattle.pack_doors.specs.PackDoors.{PackDoor};
+use crate::MarginsPacked;
+use packer::pack;
+use refusals::Reply;
+use refusals::number_of;
+
+#[no_mangle]
+pub extern "C" fn margins_pack(
+    scale: i64,
+    inputs: i64,
+    codes: &[i64],
+    firsts: &[i64],
+    seconds: &[i64],
+    outputs: &[i64],
+    bytes: &mut [u8],
+) -> MarginsPacked
+    ensures { λ r. ⌜ PackDoor (handed scale inputs
+        (parts (now (codes .entry)) (now (firsts .entry)) (now (seconds .entry)) (now (outputs .entry))))
+        (now (bytes .entry)) (now (bytes .exit)) r ⌝ }
+{
+    match pack(scale, inputs, codes, firsts, seconds, outputs, bytes) {
+        Reply::Done(n) => MarginsPacked {
+            refusal: 0,
+            bytes: n as u32,
+            place: 0,
+        },
+        Reply::Refused(why, place) => MarginsPacked {
+            refusal: number_of(why),
+            bytes: 0,
+            place: place as u64,
+        },
+    }
+}

@@ -1,0 +1,11 @@
+-- `word` meets its contract. Assumes nothing.
+use borrow.Author.Needs.{needs}
+use Rattle.putting.proofs.Encodings.{word-room, word-below, word-above}
+use Rattle.packer.proofs.word.Statement.{statement}
+use Rattle.packer.proofs.word.Tie as tie
+
+pub word-spec : {M : Type 1} → statement M
+word-spec =
+    tie.close
+    (tie.spec (λ c κs. search needs) (λ c. search word-room) (λ c κs. search needs) (λ c. search word-below)
+    (λ c. search word-above))

@@ -1,0 +1,3 @@
+-- What putting fields and writing a formula ask and leave.
+pub mod Putting
+pub mod Writing

@@ -1,0 +1,4 @@
+-- The laws of reading back, one subject a file.
+pub mod Room
+pub mod Unpacked
+pub mod OneUnpacking

@@ -1,0 +1,2 @@
+-- When lent lists are enough for a formula.
+pub mod Fillable

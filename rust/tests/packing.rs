@@ -1,0 +1,101 @@
+//! Lists to bytes and bytes to lists: both ways, each refusal in its order, and what stays as it was.
+use margins::code::*;
+use margins::*;
+
+const FORMULA: [u8; 11] = [0x02, 0x41, 0x00, 0x41, 0x80, 0x00, 0x02, 0x80, 0x20, 0x00, 0x03];
+const LIMIT: i64 = i32::MAX as i64;
+
+/// One instruction after two inputs, and one output.
+fn packed(code: i64, first: i64, second: i64, output: i64) -> Result<usize, Refused> {
+    pack(4, 2, &[code], &[first], &[second], &[output], &mut [0; MOST_BYTES])
+}
+
+#[test]
+fn the_example_is_packed_and_read_back() {
+    let mut bytes = [7; 13];
+    assert_eq!(pack(4, 2, &[MULTIPLY, ADD], &[0, 2], &[1, 0], &[3], &mut bytes), Ok(11));
+    assert_eq!((&bytes[..11], &bytes[11..]), (&FORMULA[..], &[7, 7][..]));
+
+    let (mut codes, mut firsts, mut seconds, mut outputs) = ([7; 3], [7; 2], [7; 4], [7; 2]);
+    let mut lent = LentInstructions { codes: &mut codes, firsts: &mut firsts, seconds: &mut seconds };
+    assert_eq!(unpack(&FORMULA, lent.lent(), &mut outputs), check(&FORMULA));
+    assert_eq!((codes, firsts, seconds, outputs), ([MULTIPLY, ADD, 7], [0, 2], [1, 0, 7, 7], [3, 7]));
+}
+
+#[test]
+fn every_code_goes_both_ways() {
+    let (codes, firsts) = ([CONSTANT, NEGATE, ADD, SUBTRACT, MULTIPLY], [-LIMIT, 0, 1, 0, 3]);
+    let (given, read) = ([i64::MIN, i64::MAX, 2, 1, 4], [0, 0, 2, 1, 4]);
+    let mut bytes = [0; MOST_BYTES];
+    let count = pack(30, 1, &codes, &firsts, &given, &[5, 0], &mut bytes).unwrap();
+
+    let (mut lists, mut outputs) = (Instructions::default(), [0; MOST_OUTPUTS]);
+    let header = unpack(&bytes[..count], lists.lent(), &mut outputs).unwrap();
+    assert_eq!(header, Formula { scale: 30, inputs: 1, instructions: 5, outputs: 2 });
+    assert_eq!((&lists.codes[..5], &lists.firsts[..5], &lists.seconds[..5]), (&codes[..], &firsts[..], &read[..]));
+
+    let mut again = vec![0; count];
+    let (codes, firsts, seconds) = (&lists.codes[..5], &lists.firsts[..5], &lists.seconds[..5]);
+    assert_eq!(pack(header.scale.into(), header.inputs as i64, codes, firsts, seconds, &outputs[..2], &mut again), Ok(count));
+    assert_eq!(again, bytes[..count]);
+}
+
+#[test]
+fn the_longest_formula_has_the_most_bytes() {
+    let (zeros, outputs) = ([0; MOST_INSTRUCTIONS + 1], [527; MOST_OUTPUTS]);
+    let mut bytes = [0; MOST_BYTES];
+    let (inputs, most) = (MOST_INPUTS as i64, &zeros[1..]);
+    assert_eq!(pack(0, inputs, most, most, most, &outputs, &mut bytes), Ok(MOST_BYTES));
+    assert_eq!(pack(0, inputs, most, most, most, &outputs, &mut bytes[1..]), Err(Refusal::NoRoom.into()));
+    assert_eq!(pack(0, inputs, &zeros, &zeros, &zeros, &outputs, &mut bytes), Err(Refusal::Count.into()));
+}
+
+#[test]
+fn packing_refuses_the_first_field_that_is_wrong() {
+    let mut bytes = [7; 16];
+    for (scale, inputs) in [(31, 17), (-1, -1), (i64::MIN, 0), (i64::MAX, 0)] {
+        assert_eq!(pack(scale, inputs, &[9], &[], &[], &[], &mut bytes), Err(Refusal::Scale.into()));
+    }
+    for inputs in [17, -1, i64::MIN, i64::MAX] {
+        assert_eq!(pack(0, inputs, &[], &[], &[], &[0], &mut bytes), Err(Refusal::Count.into()));
+    }
+    assert_eq!(pack(0, 1, &[9], &[0, 0], &[0], &[0], &mut bytes), Err(Refusal::Count.into()));
+    assert_eq!(pack(0, 1, &[9], &[0], &[], &[0], &mut bytes), Err(Refusal::Count.into()));
+    assert_eq!(pack(0, 1, &[9], &[0], &[0], &[], &mut bytes), Err(Refusal::Count.into()));
+    assert_eq!(pack(0, 1, &[CONSTANT, 5], &[LIMIT, 0], &[0, 0], &[9], &mut bytes), Err(Refusal::Code.into()));
+    assert_eq!(pack(0, 1, &[CONSTANT, 5], &[LIMIT + 1, 0], &[0, 0], &[9], &mut bytes), Err(Refusal::Constant.into()));
+    assert_eq!(pack(0, 1, &[NEGATE], &[0], &[0], &[2], &mut []), Err(Refusal::Operand.into()));
+    assert_eq!(pack(0, 1, &[NEGATE], &[0], &[0], &[1], &mut bytes[..6]), Err(Refusal::NoRoom.into()));
+    assert_eq!(bytes, [7; 16]);
+}
+
+#[test]
+fn each_field_has_its_limits() {
+    for code in [-1, 5, 8, i64::MIN, 1 << 32] {
+        assert_eq!(packed(code, 0, 0, 0), Err(Refusal::Code.into()));
+    }
+    for constant in [-LIMIT - 1, LIMIT + 1, i64::MIN, i64::MAX, 1 << 32] {
+        assert_eq!(packed(CONSTANT, constant, 0, 0), Err(Refusal::Constant.into()));
+    }
+    for name in [-1, 2, 1024, i64::MIN, 1 << 32] {
+        assert_eq!(packed(NEGATE, name, 0, 0), Err(Refusal::Operand.into()));
+        assert_eq!(packed(SUBTRACT, 0, name, 0), Err(Refusal::Operand.into()));
+        assert_eq!(packed(NEGATE, 0, name, 0), Ok(7));
+    }
+    assert_eq!((packed(NEGATE, 1, 0, 2), packed(NEGATE, 1, 0, 3)), (Ok(7), Err(Refusal::Operand.into())));
+}
+
+#[test]
+fn reading_back_refuses_bytes_before_lists() {
+    let mut places = [[7; 2]; 4];
+    let [codes, firsts, seconds, outputs] = &mut places;
+    let mut lent = LentInstructions { codes, firsts, seconds };
+    assert_eq!(unpack(&FORMULA[..10], lent.lent(), &mut []), Err(Refusal::Ended.into()));
+    assert_eq!(unpack(&FORMULA, lent.lent(), &mut []), Err(Refusal::NoRoom.into()));
+    for short in 0..3 {
+        let length = |list| if short == list { 1 } else { 2 };
+        let (codes, firsts, seconds) = (&mut lent.codes[..length(0)], &mut lent.firsts[..length(1)], &mut lent.seconds[..length(2)]);
+        assert_eq!(unpack(&FORMULA, LentInstructions { codes, firsts, seconds }, outputs), Err(Refusal::NoRoom.into()));
+    }
+    assert_eq!(places, [[7; 2]; 4]);
+}

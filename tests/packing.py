@@ -1,0 +1,126 @@
+"""packing.py DRIVER-COMMAND...: packs and reads back all cases through the driver and compares every reply, every byte of every buffer and
+every place of every lent list with the second packer; then both round trips."""
+
+import sys
+from collections import Counter
+from itertools import islice
+
+import driver
+import packer
+import packing_cases
+import packing_frames as frames
+import reader
+from checks import longest
+from figures import EXAMPLE
+
+CHUNK = 4000
+DIFFERENCES_SHOWN = 5
+REFUSALS = {frames.Pack: (0, 3, 4, 5, 6, 7, 10), frames.Unpack: (0, 1, 2, 3, 4, 5, 6, 7, 8, 10)}
+# What documents say of lists: document 01's example, the README's formula, the longest one, and an output that can name nothing.
+FIGURES = (
+    ((4, 2, (4, 2), (0, 2), (1, 0), (3,)), (0, EXAMPLE)),
+    ((4, 3, (0, 3, 4, 2), (4, 1, 0, 5), (0, 3, 4, 2), (6,)), (0, bytes.fromhex("02418081000000008c0100e000022014020180"))),
+    (packer.lists_of(longest()), (0, longest())),
+    ((0, 0, (), (), (), (0,)), (6, b"")),
+)
+
+
+class Comparison:
+    def __init__(self, command):
+        self.command = command
+        self.passed = self.failed = self.trips = 0
+        self.refusals = {kind: Counter() for kind in REFUSALS}
+
+    def judge(self, good, case, *words):
+        self.passed += bool(good)
+        self.failed += not good
+        if not good and self.failed <= DIFFERENCES_SHOWN:
+            print(shown(case), *words, sep="\n", flush=True)
+
+    def packer_itself(self):
+        """The second packer on the documents' figures, and beside the packer of the other tests, which tests nothing."""
+        for lists, want in FIGURES:
+            room = len(want[1])
+            self.judge(packer.pack(lists, room) == want, frames.Pack(lists, room), "  the second packer differs from the documents")
+        for lists in packing_cases.round_trips()[0]:
+            scale, inputs, *rows, outputs = lists
+            program = [(code, *fields[: 1 if code < 2 else 2]) for code, *fields in zip(*rows)]
+            same = packer.packed(*lists) == reader.pack(scale, inputs, program, outputs)
+            self.judge(same, frames.Pack(lists, 0), "  the second packer and the other tests' one differ")
+
+    def chunk(self, some):
+        """The replies to some cases, none for one that is not as it should be."""
+        replies = driver.replies(self.command, some, frames)
+        if replies is None:
+            self.judge(False, driver.first_unanswered(self.command, some, frames), "  the driver ended early")
+            return [None] * len(some)
+        return [self.compared(case, reply) for case, reply in zip(some, replies)]
+
+    def compared(self, case, reply):
+        want = frames.wanted(case)
+        same = want.reply == reply
+        words = () if same else ("  second packer:", frames.told(case, want.reply), "  driver:", frames.told(case, reply))
+        self.judge(same, case, *words)
+        self.refusals[type(case)][want.refusal] += 1
+        return reply if same else None
+
+    def round_trips(self):
+        """What the driver packed it reads back to the same lists; what it read back it packs to the same bytes."""
+        lists, files = packing_cases.round_trips()
+        there = self.chunk([frames.Pack(given, len(packer.packed(*given))) for given in lists])
+        trips = [(given, frames.bytes_in(reply)) for given, reply in zip(lists, there) if reply]
+        back = [frames.Unpack(data, packing_cases.needed(data)) for _, data in trips]
+        for (given, _), case, reply in zip(trips, back, self.chunk(back)):
+            self.trip(reply and frames.lists_in(case, reply) == without_missing_fields(given), case)
+
+        there = [frames.Unpack(data, packing_cases.needed(data)) for data in files]
+        trips = [(case.data, frames.lists_in(case, reply)) for case, reply in zip(there, self.chunk(there)) if reply]
+        back = [frames.Pack(given, len(data)) for data, given in trips]
+        for (data, _), case, reply in zip(trips, back, self.chunk(back)):
+            self.trip(reply and frames.bytes_in(reply) == data, case)
+
+    def trip(self, good, case):
+        self.judge(good, case, "  a round trip ends elsewhere")
+        self.trips += 1
+
+    def sanity(self):
+        """Whether the cases meet each refusal."""
+        for kind, counts in self.refusals.items():
+            print(f"{kind.__name__.lower()}: " + ", ".join(f"{number}: {counts[number]}" for number in REFUSALS[kind]))
+            missing = [number for number in REFUSALS[kind] if not counts[number]]
+            self.passed += not missing
+            self.failed += bool(missing)
+            if missing:
+                print(f"{kind.__name__.lower()}: refusals that no case meets: {missing}")
+        print(f"cases {sum(sum(counts.values()) for counts in self.refusals.values())}, round trips {self.trips}")
+
+
+def without_missing_fields(lists):
+    """A second field that the code does not have is read back as 0."""
+    scale, inputs, codes, firsts, seconds, outputs = lists
+    return scale, inputs, codes, firsts, tuple(second if code > 1 else 0 for code, second in zip(codes, seconds)), outputs
+
+
+def shown(case):
+    """The whole input."""
+    if isinstance(case, frames.Unpack):
+        return f"unpack: {case.data.hex()}\n  lengths of the lent lists {case.lengths}"
+    scale, inputs, *lists = case.lists
+    named = "".join(f"\n  {name} {list(numbers)}" for name, numbers in zip(frames.LISTS, lists))
+    return f"pack: scale {scale}, inputs {inputs}, a buffer of {case.room}{named}"
+
+
+def main(command):
+    comparison = Comparison(command)
+    comparison.packer_itself()
+    stream = packing_cases.all_cases()
+    while some := list(islice(stream, CHUNK)):
+        comparison.chunk(some)
+    comparison.round_trips()
+    comparison.sanity()
+    print(f"{comparison.passed} passed, {comparison.failed} failed")
+    return 1 if comparison.failed else 0
+
+
+if __name__ == "__main__":
+    sys.exit(main(sys.argv[1:]))

@@ -1,0 +1,221 @@
+"""The cases that packing.py runs. Packing: each field at its limits and far beyond, every length of every list and buffer, two wrong things
+at once, random lists. Reading back: files whole, cut and damaged, into lists of every length."""
+
+import random
+from itertools import islice, product
+
+from checks import all_checks, longest
+from cuts import INPUTS, PLACES_IN_A_BYTE, all_cuts
+from damage import damaged, misfielded, roomy, short
+from evaluator import formula
+from formulas import large_run, small_run
+from packer import CONSTANT, LARGEST, NEGATE, lists_of, packed
+from packing_frames import Pack, Unpack
+from reader import Refused
+
+NUMBERS = (
+    *(-(1 << 63), 1 - (1 << 63), -(1 << 32) - 1, -(1 << 32), 5 - (1 << 32), -(1 << 31) - 1, -(1 << 31), 1 - (1 << 31), -1024, -2, -1, 0, 1),
+    *(2, 3, 4, 5, 6, 7, 8, 15, 16, 17, 30, 31, 32, 33, 255, 256, 512, 1023, 1024, 1025, 1033, 32768, 65536, 65541, (1 << 31) - 2),
+    *((1 << 31) - 1, 1 << 31, (1 << 31) + 1, (1 << 32) - 1, 1 << 32, (1 << 32) + 5, 1 << 62, (1 << 63) - 1),
+)
+LENGTHS = (0, 1, 511, 512, 513, 1023, 1024, 1025, 1536)
+# More than a count of 16 bits holds.
+LONG = 65537
+# Where the numbers stand in a formula as lists.
+SCALE, HAS_INPUTS, CODES, FIRSTS, SECONDS, OUTPUTS = range(6)
+WRONGS = ("scale", "inputs", "lists", "outputs", "code", "first", "second", "constant", "output", "room")
+PAIRS_EACH = 100
+RANDOM_LISTS = 10000
+RANDOM_FILES = 3000
+LARGE_EVERY = 60
+CHECKED_EVERY = 8
+ROUND_TRIPS = 3000
+
+
+def lists(scale, inputs, program, outputs):
+    """A formula as lists, its instructions given as rows of three."""
+    codes, firsts, seconds = zip(*program) if program else ((), (), ())
+    return scale, inputs, codes, firsts, seconds, tuple(outputs)
+
+
+def put(given, part, number, index=None):
+    """The lists with one part exchanged, or one number of it."""
+    changed = list(given)
+    changed[part] = number if index is None else (*given[part][:index], number, *given[part][index + 1 :])
+    return tuple(changed)
+
+
+def headers():
+    """Scale and inputs, with instructions that any number of inputs permits."""
+    for number in (*NUMBERS, *range(-2, 40)):
+        yield lists(number, 1, [(0, 5, 0), (1, 0, 0)], [0])
+        yield lists(4, number, [(0, 5, 0), (1, 0, 0)], [0])
+
+
+def list_lengths():
+    """Every wrong length of each list, alone and with the others."""
+    for sizes in (*product(range(4), repeat=3), *((size,) * 3 for size in LENGTHS), (LONG,) * 3):
+        yield 4, 1, *((number,) * size for number, size in zip((NEGATE, 0, 0), sizes)), (0,)
+    for size, wrong, part in product((1, 512), LENGTHS, (CODES, FIRSTS, SECONDS)):
+        yield put(lists(4, 1, [(NEGATE, 0, 0)] * size, [0]), part, (0,) * wrong)
+    for size in (*range(40), 256, 257, LONG):
+        yield lists(4, 1, [(NEGATE, 0, 0)], [0] * size)
+
+
+def fields():
+    """Each field of each instruction and output, at every place within a byte."""
+    for before in range(PLACES_IN_A_BYTE):
+        value = INPUTS + before
+        for number in (*NUMBERS, value - 1, value, value + 1):
+            for row in ((number, 9, 9), *((code, number, 9) for code in range(5)), *((code, 9, number) for code in range(5))):
+                yield lists(4, INPUTS, [(4, 9, 0)] * before + [row, (1, 0, 0)], [0])
+            for index in range(3):
+                yield put(lists(4, INPUTS, [(4, 9, 0)] * before, [9, 8, 7]), OUTPUTS, number, index)
+
+
+def rooms():
+    """Every length of the buffer, with every number of bits in the last byte."""
+    small = [lists(4, 2, [(1, 0, 0)] * count, [1] * outputs) for count, outputs in product(range(5), (1, 2))]
+    for given in (*small, lists(30, 16, [(0, LARGEST, 7), (4, 15, 16)], range(16)), lists_of(longest())):
+        yield from (Pack(given, room) for room in range(len(packed(*given)) + 10))
+
+
+def any_number(rng):
+    return rng.choice(NUMBERS) if rng.random() < 0.7 else rng.randrange(-(1 << 63), 1 << 63)
+
+
+def random_lists(rng, instructions):
+    """Lists that are accepted; a field that the code does not have is any number."""
+    inputs = rng.choice((0, 1, 2, 5, 15, 16))
+    program = []
+    for value in range(inputs, inputs + instructions):
+        code = rng.randrange(5) if value else CONSTANT
+        first = rng.choice((LARGEST, -LARGEST, 0, -1, rng.randrange(-LARGEST, LARGEST + 1))) if code == CONSTANT else rng.randrange(value)
+        program.append((code, first, rng.randrange(value) if code > NEGATE else any_number(rng)))
+    outputs = [rng.randrange(inputs + instructions) for _ in range(rng.choice((1, 1, 2, 3, 15, 16)))]
+    return lists(rng.randrange(31), inputs, program, outputs)
+
+
+def some_lists(rng, i):
+    return random_lists(rng, rng.choice((1, 2, 3, 7, 20)) if i % LARGE_EVERY else rng.choice((100, 511, 512)))
+
+
+def resized(rng, given):
+    """One list of the instructions, or each of them, with another length."""
+    length = len(given[CODES])
+    size = rng.choice((0, abs(length - 1), length + 1, 513))
+    for part in rng.choice(((CODES,), (FIRSTS,), (SECONDS,), (CODES, FIRSTS, SECONDS))):
+        given = put(given, part, ((given[part] or (0,)) * (size + 1))[:size])
+    return given
+
+
+def misfilled(rng, given, what):
+    """One number of a list that is not permitted, or only just is; lists with no place for it stay."""
+    places = len(given[OUTPUTS]) if what == "output" else min(map(len, given[CODES:OUTPUTS]))
+    if not places:
+        return given
+    index = rng.randrange(places)
+    if what == "code":
+        return put(given, CODES, rng.choice((-1, 5, 7, 8, any_number(rng))), index)
+    if what == "constant":
+        return put(put(given, CODES, CONSTANT, index), FIRSTS, rng.choice((-LARGEST - 1, LARGEST + 1, any_number(rng))), index)
+    value = given[HAS_INPUTS] + (len(given[CODES]) if what == "output" else index)
+    number = rng.choice((-1, value - 1, value, value + 1, value + 1024, any_number(rng)))
+    part = {"first": FIRSTS, "second": SECONDS, "output": OUTPUTS}[what]
+    return put(given, part, max(-(1 << 63), min((1 << 63) - 1, number)), index)
+
+
+def spoilt(rng, given, what):
+    """The lists with one thing wrong."""
+    if what in ("scale", "inputs"):
+        return put(given, SCALE if what == "scale" else HAS_INPUTS, rng.choice((-1, 17, 31, any_number(rng))))
+    if what == "lists":
+        return resized(rng, given)
+    if what == "outputs":
+        return put(given, OUTPUTS, ((given[OUTPUTS] or (0,)) * 17)[: rng.choice((0, 17))])
+    return misfilled(rng, given, what)
+
+
+def room_for(rng, given, enough):
+    size = len(packed(*given))
+    return size + rng.choice((0, 0, 1, 9)) if enough else rng.randrange(size)
+
+
+def wrong_pairs(rng):
+    """Two wrong things at once: the refusal is that of the field that is written first, and 10 only after all of them."""
+    for pair in product(WRONGS, repeat=2):
+        for _ in range(PAIRS_EACH):
+            given = random_lists(rng, rng.choice((1, 2, 3, 8)))
+            room = room_for(rng, given, "room" not in pair)
+            for what in pair:
+                given = given if what == "room" else spoilt(rng, given, what)
+            yield Pack(given, room)
+
+
+def random_packs(rng):
+    for i in range(RANDOM_LISTS):
+        given = some_lists(rng, i)
+        yield Pack(given, room_for(rng, given, i % 5))
+
+
+def whole_files(rng, count):
+    """Formulas that are accepted."""
+    yield longest()
+    for i in range(count):
+        yield (small_run if i % LARGE_EVERY else large_run)(rng, 1)[0]
+
+
+def needed(data):
+    """The lengths of the lent lists that just have room; for bytes that are no formula, any."""
+    try:
+        _, _, l, n = formula(data)[0]
+    except Refused:
+        return 7, 8, 9, 10
+    return l, l, l, n
+
+
+def lengths_near():
+    """Every length of each lent list around what a formula needs, alone and together."""
+    small = packed(*lists(4, 2, [(4, 0, 1), (0, -5, 0), (1, 2, 0), (2, 3, 4), (3, 5, 0)], [6, 0, 2]))
+    for data in (small, longest()):
+        for number, length in product(range(4), (*range(20), 511, 512, 513, 1024)):
+            yield Unpack(data, tuple(length if i == number else enough for i, enough in enumerate(needed(data))))
+        for more in product((-1, 0, 1), repeat=4):
+            yield Unpack(data, tuple(map(sum, zip(needed(data), more))))
+
+
+def read_files(rng):
+    """Each random file whole and damaged, into lists that have room and into lists that are too short."""
+    for data in whole_files(rng, RANDOM_FILES):
+        for some in (data, rng.choice((damaged, misfielded))(rng, data)):
+            enough = needed(some)
+            yield Unpack(some, roomy(rng, enough))
+            yield Unpack(some, short(rng, tuple(max(1, length) for length in enough)))
+
+
+def all_packs(rng):
+    for given in (*headers(), *list_lengths(), *fields()):
+        yield Pack(given, rng.choice((0, 40, 2300)))
+        yield Pack(given, 2300)
+    yield from rooms()
+    yield from wrong_pairs(rng)
+    yield from random_packs(rng)
+
+
+def all_unpacks(rng):
+    yield from lengths_near()
+    for data in (*all_cuts(), *islice(all_checks(), 0, None, CHECKED_EVERY)):
+        yield Unpack(data, roomy(rng, needed(data)))
+    yield from read_files(rng)
+
+
+def all_cases(seed=1):
+    rng = random.Random(seed)
+    yield from all_packs(rng)
+    yield from all_unpacks(rng)
+
+
+def round_trips(seed=2):
+    """Lists to be packed and read back; files to be read back and packed again."""
+    rng = random.Random(seed)
+    return [some_lists(rng, i) for i in range(ROUND_TRIPS)], list(whole_files(rng, ROUND_TRIPS))
