@@ -3,7 +3,7 @@ use mathlib.Core.Path.{_≡_, sym, _∙_, ap}
 use mathlib.Core.List.{List}
 use mathlib.Core.Logic.{_⊎_, inl, inr}
 use Prim.Native.Nat.{ℕ, _+_, _-_, _*_, _/_, _%_, _^_, _≤_, _<_}
-use native.Mathlib.Nat.{le-refl}
+use native.Mathlib.Nat.{add-assoc, le-refl}
 use native.Mathlib.Numerals.{towards-suc}
 use native.Mathlib.Omega.{arith}
 use lib.Dec.{lit<}
@@ -85,6 +85,28 @@ gone-back s {i} {k} {v} g l = by-place (g .from)
     by-place (inl m) = let e : k ≡ i = omega arith in rw e at (g .window)
     by-place (inr m) =
         rw (g .window .is ∙ sym (window-none s k m .is)) (window-none s i (omega arith))
+
+-- four bytes in front of a window: they go on top, and its last four fall out
+pub four-front : (s : List ℕ) (p : ℕ) {a b c d v : ℕ} → (a ≡ getD s p 0) × (a < 256) → (b ≡ getD s (p + 1) 0) × (b < 256)
+    → (c ≡ getD s (p + 2) 0) × (c < 256) → (d ≡ getD s (p + 3) 0) × (d < 256) → IsWindow s (p + 4) v
+    → IsWindow s p ((a * 2 ^ 24 + b * 2 ^ 16 + (c * 2 ^ 8 + d)) * 2 ^ 32 + v / 2 ^ 32)
+four-front s p {a} {b} {c} {d} {v} la lb lc ld w =
+    record {
+      is = omega (arith, la, lb, lc, ld, w .is, w .bytes, same 1, same 2, same 3);
+      bytes = (
+        rw (la .0) at (la .1),
+        rw (lb .0) at (lb .1),
+        rw (lc .0) at (lc .1),
+        rw (ld .0) at (ld .1),
+        w .bytes .0,
+        rw (same 1) at (w .bytes .1),
+        rw (same 2) at (w .bytes .2),
+        rw (same 3) at (w .bytes .3),
+      );
+    }
+  where
+    same : (j : ℕ) → getD s (p + 4 + j) 0 ≡ getD s (p + (4 + j)) 0
+    same j = ap (λ (n : ℕ). getD s n 0) (add-assoc p 4 j)
 
 -- a number moved up by k bits: what was k bits further down is found at the same distance from the top
 pub lifted : (r k o w : ℕ) → k + (o + w) ≤ 64

@@ -36,7 +36,7 @@ fn wide(b: u8) -> u64
 }
 
 // The same of bytes that may end, from the last to the first: the first is put on top of the others.
-fn rest(s: &[u8], i: usize) -> u64
+fn gathered(s: &[u8], i: usize) -> u64
     ensures { λ r. ⌜ IsWindow (now (s .entry)) i r ⌝ }
 {
     let mut v: u64 = 0;
@@ -46,6 +46,19 @@ fn rest(s: &[u8], i: usize) -> u64
         v = wide(s[k]) * 0x100_0000_0000_0000 + v / 256;
     }
     v
+}
+
+// The same near the end: four bytes that are there are one load too.
+fn rest(s: &[u8], i: usize) -> u64
+    requires { ⌜ i ≤ 2 ^ 32 ⌝ }
+    ensures { λ r. ⌜ IsWindow (now (s .entry)) i r ⌝ }
+{
+    if s.len() < i + 4 {
+        return gathered(s, i);
+    }
+    let four = (wide(s[i]) * 0x100_0000 + wide(s[i + 1]) * 0x1_0000)
+        + (wide(s[i + 2]) * 0x100 + wide(s[i + 3]));
+    four * 0x1_0000_0000 + gathered(s, i + 4) / 0x1_0000_0000
 }
 
 // The eight bytes from the i-th on, as one number; past the end they are 0.
