@@ -4,8 +4,8 @@ use borrow.Author.Needs.{needs}
 use lib.ListN.{length}
 use Rattle.putting.proofs.Turns.{ProgramPutting, program-starts, program-asks, program-goes-on, program-long}
 use Rattle.putting.proofs.Turns.{firsts-inside, seconds-inside, program-done}
-use Rattle.packer.proofs.put_program.Statement.{statement}
-use Rattle.packer.proofs.put_program.Tie as tie
+use Rattle.formula_writer.proofs.put_program.Statement.{statement}
+use Rattle.formula_writer.proofs.put_program.Tie as tie
 
 abbrev Inv-loop : tie.InvT-loop
 Inv-loop codes firsts seconds out₀ w₀ k₀ out w k = ProgramPutting codes firsts seconds w₀ out₀ k w out

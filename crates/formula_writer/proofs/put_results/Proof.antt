@@ -4,8 +4,8 @@ use borrow.Author.Needs.{needs}
 use lib.ListN.{length}
 use Rattle.putting.proofs.Turns.{ResultsPutting, results-start, output-natural, output-room, results-turn}
 use Rattle.putting.proofs.Turns.{results-long, results-done}
-use Rattle.packer.proofs.put_results.Statement.{statement}
-use Rattle.packer.proofs.put_results.Tie as tie
+use Rattle.formula_writer.proofs.put_results.Statement.{statement}
+use Rattle.formula_writer.proofs.put_results.Tie as tie
 
 abbrev Inv-loop : tie.InvT-loop
 Inv-loop outputs out₀ w₀ k₀ out w k = ResultsPutting outputs w₀ out₀ k w out

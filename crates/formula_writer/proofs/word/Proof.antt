@@ -1,8 +1,8 @@
 -- `word` meets its contract. Assumes nothing.
 use borrow.Author.Needs.{needs}
 use Rattle.putting.proofs.Encodings.{word-room, word-below, word-above}
-use Rattle.packer.proofs.word.Statement.{statement}
-use Rattle.packer.proofs.word.Tie as tie
+use Rattle.formula_writer.proofs.word.Statement.{statement}
+use Rattle.formula_writer.proofs.word.Tie as tie
 
 pub word-spec : {M : Type 1} → statement M
 word-spec =

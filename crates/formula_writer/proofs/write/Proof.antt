@@ -1,8 +1,8 @@
 -- `write` meets its contract. Assumes nothing.
 use borrow.Author.Needs.{needs}
 use Rattle.putting.proofs.Wholes.{header-asks, program-may, results-may, finish-may, formula-written}
-use Rattle.packer.proofs.write.Statement.{statement}
-use Rattle.packer.proofs.write.Tie as tie
+use Rattle.formula_writer.proofs.write.Statement.{statement}
+use Rattle.formula_writer.proofs.write.Tie as tie
 
 pub write-spec : {M : Type 1} → statement M
 write-spec =

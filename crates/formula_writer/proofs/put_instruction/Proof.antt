@@ -3,8 +3,8 @@ use borrow.Author.Needs.{needs}
 use Rattle.putting.proofs.Instructions.{code-natural, code-room, constant-allowed, constant-room, constant-put}
 use Rattle.putting.proofs.Instructions.{first-natural, one-near, one-room, one-put, code-near, first-near, both-near}
 use Rattle.putting.proofs.Instructions.{second-natural, all-near, two-room, two-put}
-use Rattle.packer.proofs.put_instruction.Statement.{statement}
-use Rattle.packer.proofs.put_instruction.Tie as tie
+use Rattle.formula_writer.proofs.put_instruction.Statement.{statement}
+use Rattle.formula_writer.proofs.put_instruction.Tie as tie
 
 pub put-instruction-spec : {M : Type 1} → statement M
 put-instruction-spec =

@@ -2,8 +2,8 @@
 use borrow.Author.Needs.{needs}
 use Rattle.putting.proofs.Headers.{scale-natural, inputs-natural, scale-near, scale-moved, inputs-near, inputs-moved}
 use Rattle.putting.proofs.Headers.{instructions-near, instructions-moved, outputs-near, header-room, header-put}
-use Rattle.packer.proofs.put_header.Statement.{statement}
-use Rattle.packer.proofs.put_header.Tie as tie
+use Rattle.formula_writer.proofs.put_header.Statement.{statement}
+use Rattle.formula_writer.proofs.put_header.Tie as tie
 
 pub put-header-spec : {M : Type 1} → statement M
 put-header-spec =
