@@ -122,7 +122,8 @@ static int by_size(const void *one, const void *other)
     return (a > b) - (a < b);
 }
 
-/* A small batch of each side of each job in turn, so that whatever slows the machine slows all of them. */
+/* A job at a time, so that no other job disturbs what the processor has learnt of it; small batches of its two sides in turn, so that whatever
+   slows the machine slows both. */
 static medians measure(const workload *w)
 {
     static double taken[SIDES][JOBS][ROUNDS];
@@ -132,8 +133,8 @@ static medians measure(const workload *w)
     for (int side = 0; side < SIDES; side++)
         for (int job = 0; job < JOBS; job++)
             times[side][job] = 1 + (int)(BATCH_NANOSECONDS / batch(runs[side][job], w, TRIED_RUNS));
-    for (int round = 0; round < ROUNDS; round++)
-        for (int job = 0; job < JOBS; job++)
+    for (int job = 0; job < JOBS; job++)
+        for (int round = 0; round < ROUNDS; round++)
             for (int turn = 0; turn < SIDES; turn++) {
                 int side = (turn + round) % SIDES;
                 taken[side][job][round] = batch(runs[side][job], w, times[side][job]);

@@ -6,7 +6,7 @@
 
 typedef struct {
     char name[32];
-    uint8_t bytes[MARGINS_MOST_BYTES];
+    _Alignas(64) uint8_t bytes[MARGINS_MOST_BYTES];
     size_t length;
     uint32_t scale, inputs, instructions;
     int64_t codes[MARGINS_MOST_INSTRUCTIONS], firsts[MARGINS_MOST_INSTRUCTIONS], seconds[MARGINS_MOST_INSTRUCTIONS], output;
