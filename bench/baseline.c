@@ -63,7 +63,10 @@ margins_reply baseline_plain(const uint8_t *bytes, size_t length,
             centre = work[at->left] - work[at->right];
             break;
         default:
-            centre = (work[at->left] * work[at->right] + half) >> f.scale;
+            if (at->code == MULTIPLY)
+                centre = (work[at->left] * work[at->right] + half) >> f.scale;
+            else
+                centre = at->constant;
         }
         if (size(centre) > M)
             return refused(MARGINS_REFUSED_OUT_OF_REACH, k);
@@ -123,14 +126,18 @@ margins_reply baseline_ball(const uint8_t *bytes, size_t length,
             centre = work_centres[at->left] - work_centres[at->right];
             margin = work_margins[at->left] + work_margins[at->right];
             break;
-        default: {
+        case MULTIPLY: {
             int64_t a = work_centres[at->left], b = work_centres[at->right];
             uint64_t r = work_margins[at->left], s = work_margins[at->right];
             int64_t raised = a * b + half;
             centre = raised >> f.scale;
             uint64_t lost = size((raised & below_unit) - half);
             margin = up((size(a) + r) * s + size(b) * r + lost, f.scale);
+            break;
         }
+        default:
+            centre = at->constant;
+            margin = at->code - COEFFICIENT;
         }
         if (size(centre) + margin > M)
             return refused(MARGINS_REFUSED_OUT_OF_REACH, k);
@@ -207,7 +214,7 @@ margins_reply baseline_admit(const uint8_t *bytes, size_t length,
             stray = work_strays[at->left] + work_strays[at->right];
             margin = work_margins[at->left] + work_margins[at->right];
             break;
-        default: {
+        case MULTIPLY: {
             int64_t a = work_middles[at->left], b = work_middles[at->right];
             uint64_t strays_a = work_strays[at->left], strays_b = work_strays[at->right];
             uint64_t r = work_margins[at->left], s = work_margins[at->right];
@@ -215,7 +222,12 @@ margins_reply baseline_admit(const uint8_t *bytes, size_t length,
             middle = (a * b + (int64_t)half) >> f.scale;
             stray = up(around_a * strays_b + size(b) * strays_a, f.scale);
             margin = up((around_a + r) * s + around_b * r + half, f.scale);
+            break;
         }
+        default:
+            middle = at->constant;
+            stray = 0;
+            margin = at->code - COEFFICIENT;
         }
         if (size(middle) + stray + margin > M)
             return refused(MARGINS_REFUSED_OUT_OF_REACH, k);

@@ -44,7 +44,11 @@ static uint32_t test_instructions(const int64_t *codes, const int64_t *firsts, c
             sum += 23;
             break;
         default:
-            return MARGINS_REFUSED_CODE;
+            if (codes[k] != COEFFICIENT)
+                return MARGINS_REFUSED_CODE;
+            if (size(firsts[k]) > M || (uint64_t)seconds[k] > M - size(firsts[k]))
+                return MARGINS_REFUSED_CONSTANT;
+            sum += 66;
         }
     }
     *bits = sum;
@@ -86,6 +90,8 @@ static inline void put_instruction(writer *w, uint64_t code, int64_t first, int6
         put(w, code, 3), put(w, (uint32_t)first, 32);
     else if (code == NEGATE)
         put(w, code << 10 | (uint64_t)first, 13);
+    else if (code == COEFFICIENT)
+        put(w, code, 3), put(w, (uint32_t)first, 32), put(w, (uint64_t)second, 31);
     else
         put(w, code << 20 | (uint64_t)first << 10 | (uint64_t)second, 23);
 }
@@ -135,9 +141,21 @@ margins_formula baseline_unpack(const uint8_t *bytes, size_t length,
 
     for (size_t k = 0; k < f.instructions; k++) {
         const instruction *at = &f.program[k];
-        codes[k] = at->code;
-        firsts[k] = at->code == CONSTANT ? at->constant : at->left;
-        seconds[k] = at->code <= NEGATE ? 0 : at->right;
+        switch (at->code) {
+        case CONSTANT:
+            codes[k] = CONSTANT, firsts[k] = at->constant, seconds[k] = 0;
+            break;
+        case NEGATE:
+            codes[k] = NEGATE, firsts[k] = at->left, seconds[k] = 0;
+            break;
+        case ADD:
+        case SUBTRACT:
+        case MULTIPLY:
+            codes[k] = at->code, firsts[k] = at->left, seconds[k] = at->right;
+            break;
+        default:
+            codes[k] = COEFFICIENT, firsts[k] = at->constant, seconds[k] = at->code - COEFFICIENT;
+        }
     }
     for (size_t i = 0; i < f.outputs; i++)
         outputs[i] = f.output[i];

@@ -7,9 +7,9 @@
 
 #define M INT64_C(2147483647)
 
-enum { CONSTANT, NEGATE, ADD, SUBTRACT, MULTIPLY };
+enum { CONSTANT, NEGATE, ADD, SUBTRACT, MULTIPLY, COEFFICIENT };
 
-/* Eight bytes, so that decoding an instruction stores one word. */
+/* Eight bytes, so that decoding an instruction stores one word. A coefficient's margin has no other place than its code: it is added there. */
 typedef struct {
     uint32_t code;
     union {
@@ -40,6 +40,11 @@ static inline uint64_t window(const uint8_t *bytes, size_t length, size_t bit)
             word |= (uint64_t)bytes[i] << (56 - 8 * (i - first));
     }
     return word << (bit & 7);
+}
+
+static inline uint64_t size(int64_t number)
+{
+    return number < 0 ? -(uint64_t)number : (uint64_t)number;
 }
 
 static uint32_t read_header(const uint8_t *bytes, size_t length, formula *f)
@@ -73,6 +78,22 @@ static uint32_t read_header(const uint8_t *bytes, size_t length, formula *f)
     return MARGINS_DONE;
 }
 
+/* What follows a code over MULTIPLY. A constant of -2^31 is out of reach with every margin. */
+static inline uint32_t read_coefficient(const uint8_t *bytes, size_t length, size_t bit, uint64_t word, instruction *at)
+{
+    if (word >> 61 != COEFFICIENT)
+        return MARGINS_REFUSED_CODE;
+    if (8 * length - bit < 66)
+        return MARGINS_REFUSED_ENDED;
+    int32_t centre = (int32_t)(uint32_t)(word >> 29);
+    uint32_t margin = (uint32_t)(window(bytes, length, bit + 35) >> 33);
+    if (size(centre) + margin > M)
+        return MARGINS_REFUSED_CONSTANT;
+    at->code = COEFFICIENT + margin;
+    at->constant = centre;
+    return MARGINS_DONE;
+}
+
 /* Reads and tests the whole formula once; the walks then take its instructions ready. */
 static uint32_t read_formula(const uint8_t *bytes, size_t length, formula *f)
 {
@@ -86,8 +107,13 @@ static uint32_t read_formula(const uint8_t *bytes, size_t length, formula *f)
         uint32_t code = (uint32_t)(word >> 61);
         if (left < 3)
             return MARGINS_REFUSED_ENDED;
-        if (code > MULTIPLY)
-            return MARGINS_REFUSED_CODE;
+        if (code > MULTIPLY) {
+            refusal = read_coefficient(bytes, length, bit, word, &f->program[k]);
+            if (refusal)
+                return refusal;
+            bit += 66;
+            continue;
+        }
         f->program[k].code = code;
         if (code == CONSTANT) {
             if (left < 35)
@@ -138,11 +164,6 @@ static inline margins_formula no_formula(uint32_t refusal)
 static inline margins_formula header_of(const formula *f)
 {
     return (margins_formula){MARGINS_DONE, f->scale, (uint16_t)f->inputs, (uint16_t)f->outputs, f->instructions};
-}
-
-static inline uint64_t size(int64_t number)
-{
-    return number < 0 ? -(uint64_t)number : (uint64_t)number;
 }
 
 #endif

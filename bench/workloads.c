@@ -2,8 +2,8 @@
 
 #include <stdio.h>
 
-enum { CONSTANT, NEGATE, ADD, SUBTRACT, MULTIPLY };
-enum { SCALE = 16, UNIT = 1 << SCALE, TERMS = 8, DEGREE = 15, RECENT = 8 };
+enum { CONSTANT, NEGATE, ADD, SUBTRACT, MULTIPLY, COEFFICIENT };
+enum { SCALE = 16, UNIT = 1 << SCALE, TERMS = 8, DEGREE = 15, COEFFICIENTS_DEGREE = 21, MOST_MARGIN = 10, RECENT = 8 };
 
 /* The formula of a workload while it is packed. */
 typedef struct {
@@ -59,6 +59,13 @@ static void constant(packing *p, int32_t number)
     put(p, (uint32_t)number, 32);
 }
 
+static void coefficient(packing *p, int32_t centre, uint32_t margin)
+{
+    instruction(p, COEFFICIENT, centre, margin);
+    put(p, (uint32_t)centre, 32);
+    put(p, margin, 31);
+}
+
 static void one(packing *p, uint32_t code, uint32_t operand)
 {
     instruction(p, code, operand, 0);
@@ -100,6 +107,20 @@ workload polynomial(void)
     for (uint32_t sum = 1; sum < 1 + 3 * DEGREE; sum += 3) {
         two(&p, MULTIPLY, sum, 0);
         constant(&p, (int32_t)any(&p, 2 * UNIT) - UNIT);
+        two(&p, ADD, sum + 1, sum + 2);
+    }
+    return finish(&p);
+}
+
+workload coefficients(void)
+{
+    packing p = start(1, 1 + 3 * COEFFICIENTS_DEGREE);
+    snprintf(p.made.name, sizeof p.made.name, "coefficients, degree %d", COEFFICIENTS_DEGREE);
+    coefficient(&p, UNIT / 2, 1);
+    for (uint32_t sum = 1; sum < 1 + 3 * COEFFICIENTS_DEGREE; sum += 3) {
+        two(&p, MULTIPLY, sum, 0);
+        int32_t centre = (int32_t)any(&p, 2 * UNIT) - UNIT;
+        coefficient(&p, centre, any(&p, MOST_MARGIN));
         two(&p, ADD, sum + 1, sum + 2);
     }
     return finish(&p);

@@ -19,7 +19,10 @@ workload dot_product(void);
 /* Horner's rule for a polynomial of degree 15 in one input. */
 workload polynomial(void);
 
-/* Instructions of all codes in an order that looks random; at most 512 of them. */
+/* Horner's rule for a polynomial of degree 21 whose constants have margins: 22 of 64 instructions. */
+workload coefficients(void);
+
+/* Instructions of all codes but a coefficient's in an order that looks random; at most 512 of them. */
 workload mix(uint32_t instructions);
 
 #endif

@@ -38,15 +38,15 @@ extern "C" {
 #endif
 
 /* The version of this interface; it grows when a program written for the one before may need a change. */
-#define MARGINS_INTERFACE 1
+#define MARGINS_INTERFACE 2
 
 /* Enough for every formula. Values are the inputs and the instructions' results; a work list of so many places is never too short. */
 #define MARGINS_MOST_INPUTS 16
 #define MARGINS_MOST_OUTPUTS 16
 #define MARGINS_MOST_INSTRUCTIONS 512
 #define MARGINS_MOST_VALUES 528
-/* The longest formula: 32 bits of header, 512 constants of 35 bits, 16 outputs of 10 bits. */
-#define MARGINS_MOST_BYTES 2264
+/* The longest formula: 32 bits of header, 512 coefficients of 66 bits, 16 outputs of 10 bits. */
+#define MARGINS_MOST_BYTES 4248
 
 /* Why there is no answer. A refusal is one of these numbers, 0 is none; a later library may give further ones. */
 enum {
@@ -56,9 +56,10 @@ enum {
     MARGINS_REFUSED_SCALE = 3,         /* the scale is outside 0 to 30 */
     MARGINS_REFUSED_COUNT = 4,         /* the number of inputs, instructions or outputs is outside its limits, or the
                                         * instructions' lists differ in length */
-    MARGINS_REFUSED_CODE = 5,          /* the code is outside 0 to 4 */
+    MARGINS_REFUSED_CODE = 5,          /* the code is outside 0 to 5 */
     MARGINS_REFUSED_OPERAND = 6,       /* an operand or output names no permitted value */
-    MARGINS_REFUSED_CONSTANT = 7,      /* a constant is outside -2147483647 to 2147483647 */
+    MARGINS_REFUSED_CONSTANT = 7,      /* a constant is outside -2147483647 to 2147483647, or its margin is below 0 or
+                                        * reaches outside */
     MARGINS_REFUSED_PADDING = 8,       /* a padding bit is set or a byte follows */
     MARGINS_REFUSED_READINGS = 9,      /* the number of readings isn't that of the inputs, or one is outside its limits */
     MARGINS_REFUSED_NO_ROOM = 10,      /* a list to be written is too short */
@@ -77,9 +78,11 @@ MARGINS_IN_HEADER const char *margins_refusal_text(uint32_t refusal)
     case MARGINS_REFUSED_COUNT:
         return "the number of inputs, instructions or outputs is outside its limits, "
                "or the instructions' lists differ in length";
-    case MARGINS_REFUSED_CODE: return "the code is outside 0 to 4";
+    case MARGINS_REFUSED_CODE: return "the code is outside 0 to 5";
     case MARGINS_REFUSED_OPERAND: return "an operand or output names no permitted value";
-    case MARGINS_REFUSED_CONSTANT: return "a constant is outside -2147483647 to 2147483647";
+    case MARGINS_REFUSED_CONSTANT:
+        return "a constant is outside -2147483647 to 2147483647, "
+               "or its margin is below 0 or reaches outside";
     case MARGINS_REFUSED_PADDING: return "a padding bit is set or a byte follows";
     case MARGINS_REFUSED_READINGS: return "the number of readings isn't that of the inputs, or one is outside its limits";
     case MARGINS_REFUSED_NO_ROOM: return "a list to be written is too short";
@@ -180,11 +183,13 @@ MARGINS_MUST_USE margins_reply margins_admit(
 /* A formula as lists. Instruction k has the code codes[k] and the fields firsts[k] and seconds[k]; it makes value inputs + k and may name
  * only smaller values. The outputs may name any value. */
 enum {
-    MARGINS_CODE_CONSTANT = 0, /* first: the constant, -2147483647 to 2147483647; it has no second */
-    MARGINS_CODE_NEGATE = 1,   /* first: the operand; it has no second */
-    MARGINS_CODE_ADD = 2,      /* first and second: the operands */
-    MARGINS_CODE_SUBTRACT = 3, /* first: the operand from which the second is taken */
-    MARGINS_CODE_MULTIPLY = 4  /* first and second: the operands */
+    MARGINS_CODE_CONSTANT = 0,   /* first: the constant, exact, -2147483647 to 2147483647; it has no second */
+    MARGINS_CODE_NEGATE = 1,     /* first: the operand; it has no second */
+    MARGINS_CODE_ADD = 2,        /* first and second: the operands */
+    MARGINS_CODE_SUBTRACT = 3,   /* first: the operand from which the second is taken */
+    MARGINS_CODE_MULTIPLY = 4,   /* first and second: the operands */
+    MARGINS_CODE_COEFFICIENT = 5 /* a constant with a margin; first: its centre, second: how far the truth may be from it, at least 0;
+                                  * |centre| + margin is at most 2147483647 */
 };
 
 /* Packs the lists. They may hold any numbers; a second field that the code does not have is not looked at. The fields are tested in the

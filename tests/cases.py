@@ -1,12 +1,12 @@
-"""The cases that compare.py runs: document 01's figures, small products, each limit, and random ones, some of them spoilt."""
+"""The cases that compare.py runs: the documents' figures, small products, each limit, and random ones, some of them spoilt."""
 
 import random
 from itertools import product
 
 import evaluator
 import reader
-from cuts import all_cuts
-from checks import all_checks
+from cuts import all_cuts, flipped
+from checks import all_checks, longest, longest_exact
 from damage import damaged, misfielded, roomy, short, wrong_readings
 from figures import figures
 from formulas import CODES, large_run, small_run
@@ -81,10 +81,7 @@ def every_scale(rng):
         for parts in (1, 2, 3):
             case = case_of(rng, data, ([1 << scale], [1], [1])[:parts])
             yield case
-            for bit in range(32):
-                flipped = bytearray(data)
-                flipped[bit // 8] ^= 128 >> bit % 8
-                yield case._replace(data=bytes(flipped))
+            yield from (case._replace(data=flipped(data, bit)) for bit in range(32))
 
 
 def lengths_near(rng):
@@ -99,6 +96,25 @@ def lengths_near(rng):
             yield case._replace(readings=tuple((numbers * 6)[:length] for numbers in case.readings))
         for number, length in product(range(2 * parts), range(8)):
             yield case._replace(lengths=tuple(length if i == number else enough for i, enough in enumerate(needed(data, parts))))
+
+
+def longest_runs():
+    """The longest formulas in every job, with just enough room and with a place too few in each list."""
+    for data, parts in product((longest(), longest_exact()), (1, 2, 3)):
+        readings = tuple([(-1) ** i * (i << 20) if part == 0 else i * part for i in range(16)] for part in range(parts))
+        enough = needed(data, parts)
+        yield Case(JOBS[parts], data, readings, enough)
+        for number in range(2 * parts):
+            yield Case(JOBS[parts], data, readings, tuple(length - (i == number) for i, length in enumerate(enough)))
+
+
+def weighed(rng):
+    """Products and sums of small coefficients and readings: the coefficient first and second, in all three kinds."""
+    values = list(product((-17, -8, -1, 0, 1, 2, 8, 24), (0, 1, 5)))
+    for scale, parts in product((0, 1, 4, 16), (1, 2, 3)):
+        for (centre, margin), (c, r) in product(values, repeat=2):
+            program = [(5, centre, margin), (4, 0, 1), (4, 1, 0), (3, 1, 0), (2, 2, 3)]
+            yield case_of(rng, reader.pack(scale, 1, program, [5, 4, 1]), ([c], [r], [margin])[:parts])
 
 
 def cut_cases():
@@ -117,6 +133,8 @@ def all_cases(seed=1):
     yield from small_products(rng)
     yield from every_scale(rng)
     yield from lengths_near(rng)
+    yield from longest_runs()
+    yield from weighed(rng)
     yield from cut_cases()
     yield from (Case("check", data) for data in all_checks())
     yield from random_cases(rng)

@@ -3,15 +3,30 @@
 import random
 
 import reader
+from cuts import flipped
 from damage import damaged
+from reader import LARGEST as M
 
 EXAMPLE = bytes.fromhex("0241004180000280200003")
 
 
-def longest():
-    """16 inputs, 512 constants, 16 outputs: 2,264 bytes."""
-    program = [(0, (k * 2654435761) % (1 << 32) or 1) for k in range(512)]
+# Prime to 8 and to 66: such steps come to every bit of a byte and to every bit of a coefficient.
+FLIPPED_EVERY = 7
+
+
+def of_most_counts(program):
     return reader.pack(30, 16, program, [527 - 32 * k for k in range(16)])
+
+
+def longest():
+    """16 inputs, 512 coefficients, 16 outputs: 4,248 bytes. Every second coefficient has the largest reach."""
+    centres = [(k * 2654435761) % (2 * M + 1) - M for k in range(512)]
+    return of_most_counts([(5, centre, (M - abs(centre)) >> k % 2) for k, centre in enumerate(centres)])
+
+
+def longest_exact():
+    """The same with 512 constants: 2,264 bytes."""
+    return of_most_counts([(0, (k * 2654435761) % (1 << 32) or 1) for k in range(512)])
 
 
 def random_formula(rng):
@@ -19,9 +34,10 @@ def random_formula(rng):
     l = rng.choice((0, 1, 2, 7, 30))
     program = []
     for k in range(l):
-        code = rng.randrange(5) if m + k else 0
-        if code == 0:
-            program.append((0, rng.choice((0, 1, -1, (1 << 31) - 1, 1 - (1 << 31), rng.randrange(1 << 31)))))
+        code = rng.randrange(6) if m + k else rng.choice((0, 5))
+        if code in (0, 5):
+            centre = rng.choice((0, 1, -1, M, -M, rng.randrange(1 << 31)))
+            program.append((0, centre) if code == 0 else (5, centre, rng.randrange(M - abs(centre) + 1)))
         else:
             program.append((code, *(rng.randrange(m + k) for _ in range(1 if code == 1 else 2))))
     outputs = [rng.randrange(m + l) for _ in range(rng.randrange(1, 17))] if m + l else [0]
@@ -50,14 +66,12 @@ def all_checks():
         yield reader.pack(0, 1, [(1, 0), (2, 0, name)], [2])
         yield reader.pack(0, 1, [(1, 0), (2, name, 0)], [2])
         yield reader.pack(0, 1, [(1, 0), (1, 0)], [name])
-    whole = longest()
-    yield whole
-    for size in range(len(whole)):
-        yield whole[:size]
-    for bit in range(8 * len(whole)):
-        flipped = bytearray(whole)
-        flipped[bit // 8] ^= 128 >> bit % 8
-        yield bytes(flipped)
+    for whole, every in ((longest_exact(), 1), (longest(), FLIPPED_EVERY)):
+        yield whole
+        for size in range(len(whole)):
+            yield whole[:size]
+        for bit in range(0, 8 * len(whole), every):
+            yield flipped(whole, bit)
     rng = random.Random(1)
     for _ in range(5000):
         data = random_formula(rng)
@@ -67,8 +81,9 @@ def all_checks():
 
 
 def figures():
-    """What document 01 says of some of them."""
+    """What documents 01 and 02 say of some of them."""
     yield EXAMPLE, (0, 4, 2, 2, 1)
     yield b"", (1,)
     yield reader.pack(0, 0, [], [0]), (6,)
     yield longest(), (0, 30, 16, 512, 16)
+    yield longest_exact(), (0, 30, 16, 512, 16)

@@ -20,14 +20,16 @@ CHUNK = 4000
 DIFFERENCES_SHOWN = 5
 SHARE_OF_ADMISSIONS = 0.5
 LEAST_SHARE_MULTIPLIED = 0.4
-LONGEST = 2264
+LEAST_SHARE_DOUBTFUL = 0.2
+LONGEST = 4248
+LONGEST_EXACT = 2264
 
 
 class Comparison:
     def __init__(self, command):
         self.command = command
         self.rng = random.Random(2)
-        self.passed = self.failed = self.multiplied = 0
+        self.passed = self.failed = self.multiplied = self.doubtful = 0
         self.refusals = {job: Counter() for job in frames.JOBS}
         self.tried = Counter()
 
@@ -41,16 +43,17 @@ class Comparison:
             print(*words, sep="\n", flush=True)
 
     def figures(self):
-        """The second evaluator itself on document 01's figures."""
+        """The second evaluator itself on the documents' figures."""
         for case, refusal, outputs in figures():
             want = frames.wanted(case)
-            self.judge((want.refusal, want.outputs) == (refusal, outputs), case, f"  document 01 has {refusal} {outputs}")
+            self.judge((want.refusal, want.outputs) == (refusal, outputs), case, f"  the documents have {refusal} {outputs}")
 
     def reader_itself(self):
-        """The second reader itself on what document 01 says of a header, and the length of the longest formula."""
+        """The second reader itself on what the documents say of a header, and the length of the longest formulas."""
         for data, want in checks.figures():
-            self.judge(header(data) == want, frames.Case("check", data), f"  document 01 has {want}")
-        self.expect(len(checks.longest()) == LONGEST, "the longest formula has another length")
+            self.judge(header(data) == want, frames.Case("check", data), f"  the documents have {want}")
+        lengths = len(checks.longest()), len(checks.longest_exact())
+        self.expect(lengths == (LONGEST, LONGEST_EXACT), "the longest formula has another length")
 
     def chunk(self, some):
         """Compares some cases, and a plain and a ball case inside the domain of each admission that is picked."""
@@ -78,7 +81,9 @@ class Comparison:
         self.judge(same, case, *words)
         self.refusals[case.job][want.refusal] += 1
         if want.refusal == 0:
-            self.multiplied += any(name == "multiply" for name, *_ in formula(case.data)[1])
+            names = {name for name, *_ in formula(case.data)[1]}
+            self.multiplied += "multiply" in names
+            self.doubtful += "coefficient" in names
             if same and case.job == "ball":
                 self.demand_2(case, want.values)
 
@@ -104,8 +109,9 @@ class Comparison:
         total = sum(sum(counts.values()) for counts in self.refusals.values())
         runs = total - sum(self.refusals["check"].values())
         tried = ", ".join(f"{name} {count}" for name, count in sorted(self.tried.items()))
-        print(f"cases {total}, accepted with a multiplication {self.multiplied}, {tried}")
+        print(f"cases {total}, accepted with a multiplication {self.multiplied}, with a coefficient {self.doubtful}, {tried}")
         self.expect(self.multiplied > LEAST_SHARE_MULTIPLIED * runs, "too few cases are accepted and multiply")
+        self.expect(self.doubtful > LEAST_SHARE_DOUBTFUL * runs, "too few cases are accepted and have a coefficient")
 
     def expect(self, good, words):
         self.passed += good

@@ -1,6 +1,9 @@
 """Formulas with one field that is refused, at every place within a byte, whole and cut at each byte: first 1, then the field's own test."""
 
+from itertools import product
+
 import reader
+from reader import LARGEST as M
 
 HEADERS = (
     *({"version": version} for version in range(128)),
@@ -10,8 +13,14 @@ HEADERS = (
     *({"n": n} for n in range(32)),
 )
 # Each a code with its fields, after so many values that operand 9 is permitted and operand 1000 is not.
-REFUSED = ((5, 0, 0), (6, 0, 0), (7, 0, 0), (0, -(1 << 31)), (1, 1000), (4, 1000, 0), (4, 0, 1000), (2, 1000, 1000))
+REFUSED = (
+    *((6, 0, 0), (7, 0, 0), (6, 1000, 1000), (0, -(1 << 31)), (1, 1000), (4, 1000, 0), (4, 0, 1000), (2, 1000, 1000)),
+    *((5, -(1 << 31), 0), (5, -(1 << 31), M), (5, M, 1), (5, -M, 1), (5, 1, M), (5, M, M)),
+)
+# Coefficients that are permitted: the least and the largest margins, alone and with the largest reach.
+COEFFICIENTS = ((5, 0, 0), (5, 2, 1), (5, -1, 0), (5, 0, M), (5, M - 1, 1), (5, 1 - M, 1), (5, -M, 0), (5, -1, M - 1), (5, 1 << 30, (1 << 30) - 1))
 INPUTS = 10
+MOST_OUTPUTS = 16
 PLACES_IN_A_BYTE = 8
 
 
@@ -34,6 +43,40 @@ def programs():
             yield from with_cuts(reader.pack(4, INPUTS, [(4, 9, 0)] * before, [0] * (count - 1) + [1000]))
 
 
+def coefficients():
+    """Coefficients at every place within a byte and at every distance from the end of the bytes, permitted ones and refused ones."""
+    refused = tuple(row for row in REFUSED if row[0] == 5)
+    for before, count in product(range(PLACES_IN_A_BYTE), range(1, MOST_OUTPUTS + 1)):
+        for row in COEFFICIENTS + refused:
+            yield reader.pack(4, INPUTS, [(4, 9, 0)] * before + [row], [9] * count)
+    for before, row in product(range(PLACES_IN_A_BYTE), COEFFICIENTS):
+        yield from with_cuts(reader.pack(4, INPUTS, [(4, 9, 0)] * before + [row], [INPUTS + before]))
+        yield reader.pack(4, INPUTS, [(1, 9)] * before + [row] * 3, [INPUTS + before] * 2)
+
+
+def margins_near():
+    """Every margin around what each centre leaves room for."""
+    for centre in (0, 1, -1, 2, -9, 1 << 16, -(1 << 30), M - 1, 1 - M, M, -M, -(1 << 31)):
+        room = M - abs(centre)
+        for margin in {0, 1, 2, room - 1, room, room + 1, 1 << 30, M - 1, M}:
+            if 0 <= margin <= M:
+                yield reader.pack(4, INPUTS, [(5, centre, margin), (4, 10, 9), (2, 11, 10)], [10, 11, 12])
+
+
+def flips():
+    """Every bit of files with coefficients, flipped."""
+    for program in ([(5, 2, 1)], [(4, 9, 0), (5, -M, 0), (4, 10, 11)], [(1, 0), (5, M - 1, 1), (5, 0, 0), (2, 11, 12)]):
+        data = reader.pack(4, INPUTS, program, [INPUTS + len(program) - 1, 0])
+        for bit in range(8 * len(data)):
+            yield flipped(data, bit)
+
+
+def flipped(data, bit):
+    changed = bytearray(data)
+    changed[bit // 8] ^= 128 >> bit % 8
+    return bytes(changed)
+
+
 def padding():
     """Every bit of the padding set, and bytes that follow."""
     for count in range(1, 17):
@@ -45,6 +88,5 @@ def padding():
 
 
 def all_cuts():
-    yield from headers()
-    yield from programs()
-    yield from padding()
+    for some in (headers, programs, coefficients, margins_near, flips, padding):
+        yield from some()

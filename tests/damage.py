@@ -45,14 +45,22 @@ def misfielded(rng, data):
 
 
 def misinstructed(rng, instruction, value):
-    """A code that means nothing, a constant of -2^31, or an operand that is not yet made."""
+    """A code that means nothing, a constant of -2^31, a coefficient at its reach or beyond it, or an operand that is not yet made."""
     code, *rest = instruction
     if rng.random() < 0.2:
-        return rng.choice((5, 6, 7)), *(number & 1023 for number in rest)
-    if code == 0:
+        return rng.choice((6, 7)), *(number & 1023 for number in rest)
+    if code == CODES.index("constant"):
         return code, rng.choice((-(1 << 31), 1 - (1 << 31), M))
+    if code == CODES.index("coefficient"):
+        return code, *rng.choice(coefficients_near(rest[0]))
     rest[rng.randrange(len(rest))] = rng.choice((value - 1 if value else 0, value, value + 1, 1023))
     return code, *rest
+
+
+def coefficients_near(centre):
+    """This centre with margins on both sides of its limit, and centres at theirs."""
+    room = M - abs(centre)
+    return (centre, room), (centre, min(M, room + 1)), (centre, M), (M, 1), (-M, 1), (M - 1, 1), (-(1 << 31), 0), (-(1 << 31), M)
 
 
 def resized(numbers, length):

@@ -1,6 +1,7 @@
 """Demands 2 and 3 tried on single runs: exact arithmetic on fractions inside the readings, balls inside an admitted domain."""
 
 from fractions import Fraction
+from functools import partial
 
 from evaluator import contains, exact, formula
 from frames import Case
@@ -12,7 +13,7 @@ def small_enough(m, program):
     """Exact numbers grow with the degree; past this one they are slow."""
     degrees = [1] * m
     for name, first, *second in program:
-        if name == "constant":
+        if name in ("constant", "coefficient"):
             degrees.append(1)
         elif name == "negate":
             degrees.append(degrees[first])
@@ -25,18 +26,19 @@ def small_enough(m, program):
 
 
 def fraction_inside(rng, scale, centre, margin):
-    """A fraction that the ball contains: either end, or any other."""
+    """A fraction that the ball contains: either end, the centre, or any other."""
     parts = rng.choice((1, 1, 2, 3, 10, 1000))
-    share = rng.choice((-parts, parts, rng.randrange(-parts, parts + 1)))
+    share = rng.choice((-parts, 0, parts, rng.randrange(-parts, parts + 1)))
     return Fraction(centre * parts + margin * share, parts << scale)
 
 
 def exact_values(rng, data, balls):
-    """All values in exact arithmetic for random fractions inside these balls, or none where they grow too large."""
+    """All values in exact arithmetic for random fractions inside these balls and coefficients, or none where they grow too large."""
     (scale, m, _, _), program, _ = formula(data)
     if not small_enough(m, program):
         return None
-    return exact(scale, program, [fraction_inside(rng, scale, *ball) for ball in balls])
+    inside = partial(fraction_inside, rng)
+    return exact(scale, program, [inside(scale, *ball) for ball in balls], inside)
 
 
 def encloses(rng, data, balls, values):

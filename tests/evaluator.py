@@ -1,4 +1,5 @@
-"""A second evaluator, written from document 01: the three runs in exact integers, and exact arithmetic on fractions.
+"""A second evaluator, written from document 01 and document 02's request b: the three runs in exact integers, and exact arithmetic on
+fractions.
 
 A value is a tuple: (x,) in a plain run, (centre, margin) in a ball run, (middle, stray, margin) in an admission.
 """
@@ -56,6 +57,8 @@ def step(scale, parts, instruction, values):
     name, first, *second = instruction
     if name == "constant":
         return (first, *(0,) * (parts - 1))
+    if name == "coefficient":
+        return ((first,), (first, *second), (first, 0, *second))[parts - 1]
     left = values[first]
     if name == "negate":
         return (-left[0], *left[1:])
@@ -99,12 +102,18 @@ def admit(data, readings, lengths):
     return run(3, data, readings, lengths)
 
 
-def exact(scale, program, fractions):
-    """All values in exact arithmetic, with no rounding and no limit."""
+def centre_of(scale, centre, _margin):
+    return Fraction(centre, 1 << scale)
+
+
+def exact(scale, program, fractions, inside=centre_of):
+    """All values in exact arithmetic, with no rounding and no limit. A coefficient is the fraction that is taken inside its margin."""
     values = list(fractions)
     for name, first, *second in program:
         if name == "constant":
             made = Fraction(first, 1 << scale)
+        elif name == "coefficient":
+            made = inside(scale, first, *second)
         elif name == "negate":
             made = -values[first]
         elif name == "add":

@@ -1,4 +1,4 @@
-"""Document 01's figures, marked and unmarked, and its examples: cases with what they must give."""
+"""Document 01's figures, marked and unmarked, its examples, and document 02's on coefficients: cases with what they must give."""
 
 import reader
 from formulas import CODES
@@ -32,6 +32,19 @@ EXAMPLES = (
     (((24, 3, 1), (-10, 2, 1)), (9, 9, 4)),
 )
 
+# 0.1 at scale 4 is 1.6 units: as a coefficient 2 give or take 1. A reading of 160 units, times it, and what that gives: the exact
+# product is 16, which 20 give or take 0 would not hold.
+WEIGHT = reader.pack(4, 1, [(5, 2, 1), (4, 0, 1)], [2, 1])
+WEIGHED = (
+    ((160,), ((20,), (2,))),
+    ((160, 0), ((20, 10), (2, 1))),
+    ((1, 0), ((0, 1), (2, 1))),
+    ((0, 0), ((0, 0), (2, 1))),
+    ((-160, 16), ((-20, 13), (2, 1))),
+    ((160, 0, 0), ((20, 0, 11), (2, 0, 1))),
+    ((160, 3, 1), ((20, 1, 11), (2, 0, 1))),
+)
+
 # Bytes and the refusal that they give, 0 for none.
 CHECKS = (
     (EXAMPLE, 0),
@@ -39,6 +52,13 @@ CHECKS = (
     (reader.pack(30, 1, [], [0]), 0),
     (reader.pack(31, 1, [], [0]), 3),
     (reader.pack(0, 0, [], [0]), 6),
+    (reader.pack(0, 0, [(5, M - 1, 1)], [0]), 0),
+    (reader.pack(0, 0, [(5, M, 1)], [0]), 7),
+    (reader.pack(0, 0, [(5, -M, 0)], [0]), 0),
+    (reader.pack(0, 0, [(5, -M - 1, 0)], [0]), 7),
+    # 32 + 66 bits would be over 12 bytes: the margin's last bits are not there, and its centre's test is not yet due.
+    (reader.pack(0, 0, [(5, -M - 1, 0)], [0])[:12], 1),
+    *((reader.pack(0, 1, [(code, 0, 0)], [0]), 5) for code in (6, 7)),
 )
 
 
@@ -56,5 +76,7 @@ def figures():
         yield (case, result, []) if isinstance(result, int) else (case, 0, [result])
     for readings, output in EXAMPLES:
         yield exactly_enough(EXAMPLE, readings, 4, 1), 0, [output]
+    for value, outputs in WEIGHED:
+        yield exactly_enough(WEIGHT, (value,), 3, 2), 0, list(outputs)
     for data, refusal in CHECKS:
         yield Case("check", data), refusal, []

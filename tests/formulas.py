@@ -2,10 +2,10 @@
 
 import reader
 from evaluator import M, reach, step
-from numbers_near import permitted, reading
+from numbers_near import reading
 
-CODES = ("constant", "negate", "add", "subtract", "multiply")
-WEIGHTS = (3, 1, 3, 3, 6)
+CODES = reader.NAMES
+WEIGHTS = (2, 1, 3, 3, 6, 2)
 TRIES = 4
 SIZES = (0, 1, 2, 2, 3, 3, 4, 5, 6, 7, 8, 12, 20)
 INPUTS = (0, 1, 1, 2, 2, 2, 3, 3, 4, 5, 8, 16)
@@ -23,9 +23,9 @@ class Growing:
 
     def instruction(self):
         rng, made = self.rng, len(self.values)
-        code = rng.choices(CODES, WEIGHTS)[0] if made else "constant"
-        if code == "constant":
-            return code, permitted(rng, self.scale)
+        code = rng.choices(CODES, WEIGHTS)[0] if made else rng.choice(("constant", "coefficient"))
+        if code in ("constant", "coefficient"):
+            return (code, *reading(rng, self.scale, 1 if code == "constant" else 2))
         return (code, *(self.operand() for _ in range(1 if code == "negate" else 2)))
 
     def operand(self):
@@ -47,7 +47,7 @@ class Growing:
         return self.add(("constant", self.rng.randrange(-9, 10)))
 
     def add_edge(self, beyond):
-        """A constant and a sum or a product whose reach is M, or is just beyond M, or nearly so."""
+        """A constant, exact or with a margin, and a sum or a product whose reach is M, or is just beyond M, or nearly so."""
         rng = self.rng
         name = rng.randrange(len(self.values))
         value = self.values[name]
@@ -59,8 +59,18 @@ class Growing:
             constant = (M - reach(value) + beyond) * (-1 if value[0] < 0 else 1)
             code = "add" if sign > 0 else "subtract"
             constant *= sign
-        self.add(("constant", max(-M, min(M, constant))))
+        self.add(self.constant_of_reach(max(-M, min(M, constant))))
         self.add((code, name, len(self.values) - 1) if code == "subtract" or rng.getrandbits(1) else (code, len(self.values) - 1, name))
+
+    def constant_of_reach(self, constant):
+        """The constant, or a coefficient with its sign and reach; a plain run looks at the centre alone."""
+        rng, size = self.rng, abs(constant)
+        if rng.getrandbits(1):
+            return "constant", constant
+        if self.parts == 1:
+            return "coefficient", constant, rng.randrange(M - size + 1)
+        margin = rng.choice((0, min(1, size), size, rng.randrange(size + 1)))
+        return "coefficient", (size - margin) * (-1 if constant < 0 else 1), margin
 
     def packed(self, outputs):
         return reader.pack(self.scale, self.inputs, [(CODES.index(name), *rest) for name, *rest in self.program], outputs)

@@ -34,7 +34,7 @@ def random_case(rng):
 
 
 def random_number(rng):
-    return rng.randrange(5) if rng.random() < 0.9 else packing_cases.any_number(rng)
+    return rng.randrange(6) if rng.random() < 0.9 else packing_cases.any_number(rng)
 
 
 def random_packing(rng):
@@ -44,7 +44,7 @@ def random_packing(rng):
     size = rng.choice((0, 1, 2, 9, 513))
     sizes = [size if rng.random() < 0.9 else rng.randrange(20) for _ in range(3)]
     lists = [tuple(random_number(rng) for _ in range(length)) for length in (*sizes, rng.choice((0, 1, 2, 16, 17)))]
-    return packing_frames.Pack((random_number(rng), random_number(rng), *lists), rng.choice((0, 5, 6, 40, 2264)))
+    return packing_frames.Pack((random_number(rng), random_number(rng), *lists), rng.choice((0, 5, 6, 40, 4248)))
 
 
 def survived(driver, form, some):

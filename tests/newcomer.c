@@ -6,8 +6,8 @@
 
 #include "margins.h"
 
-#if MARGINS_INTERFACE != 1
-#error "this program is written for interface 1"
+#if MARGINS_INTERFACE != 2
+#error "this program is written for interface 2"
 #endif
 
 static const uint8_t formula[] = {0x02, 0x41, 0x00, 0x41, 0x80, 0x00, 0x02, 0x80, 0x20, 0x00, 0x03};
@@ -34,13 +34,17 @@ static void check(const uint8_t *bytes, size_t length)
                (unsigned)found.inputs, found.instructions, (unsigned)found.outputs);
 }
 
-/* A header with the largest counts, then instructions and outputs of zero bits alone: constants 0, and value 0 as each output. */
+/* The largest counts, every instruction a coefficient: 0 give or take 0, and value 0 as each output. */
 static void check_longest(void)
 {
-    static const uint8_t header[] = {0x03, 0xE8, 0x40, 0x10};
+    static int64_t codes[MARGINS_MOST_INSTRUCTIONS];
+    static const int64_t zeros[MARGINS_MOST_INSTRUCTIONS];
     static uint8_t longest[MARGINS_MOST_BYTES];
-    memcpy(longest, header, sizeof header);
-    check(longest, sizeof longest);
+    for (size_t k = 0; k < MARGINS_MOST_INSTRUCTIONS; k++)
+        codes[k] = MARGINS_CODE_COEFFICIENT;
+    margins_packed made = margins_pack(30, MARGINS_MOST_INPUTS, codes, MARGINS_MOST_INSTRUCTIONS, zeros, MARGINS_MOST_INSTRUCTIONS,
+                                       zeros, MARGINS_MOST_INSTRUCTIONS, zeros, MARGINS_MOST_OUTPUTS, longest, sizeof longest);
+    check(longest, made.bytes);
 }
 
 static void plain(int64_t x, int64_t y, size_t work_length)
@@ -101,6 +105,24 @@ static void pack(int64_t scale, size_t length)
         printf("pack: %" PRIu32 " bytes, %s formula\n", made.bytes, memcmp(bytes, formula, sizeof formula) ? "another" : "the same");
 }
 
+/* The weight 0.1 is 1.6 units: as an exact constant its rounding to 2 would be lost, as a coefficient it stays in the margin. */
+static void weigh(int64_t code, int64_t margin, margins_reading x)
+{
+    const int64_t codes[] = {code, MARGINS_CODE_MULTIPLY}, firsts[] = {2, 0}, seconds[] = {margin, 1}, outputs[] = {2};
+    uint8_t bytes[MARGINS_MOST_BYTES];
+    margins_packed made = margins_pack(4, 1, codes, 2, firsts, 2, seconds, 2, outputs, 1, bytes, sizeof bytes);
+    if (made.refusal) {
+        printf("weigh: refused %" PRIu32 ", %s\n", made.refusal, margins_refusal_text(made.refusal));
+        return;
+    }
+    margins_reply reply = margins_ball_records(bytes, made.bytes, &x, 1, work, MARGINS_MOST_VALUES, work_margins, MARGINS_MOST_VALUES,
+                                               output, MARGINS_MOST_OUTPUTS, output_margins, MARGINS_MOST_OUTPUTS);
+    if (reply.refusal)
+        tell_refusal("weigh", reply);
+    else
+        printf("weigh: %" PRId64 " give or take %" PRIu64 "\n", output[0], output_margins[0]);
+}
+
 static void unpack(size_t length)
 {
     int64_t codes[MARGINS_MOST_INSTRUCTIONS], firsts[MARGINS_MOST_INSTRUCTIONS], seconds[MARGINS_MOST_INSTRUCTIONS];
@@ -133,6 +155,9 @@ int main(void)
     pack(4, MARGINS_MOST_BYTES);
     pack(4, sizeof formula - 1);
     pack(-1, MARGINS_MOST_BYTES);
+    weigh(MARGINS_CODE_CONSTANT, 0, (margins_reading){160, 0});
+    weigh(MARGINS_CODE_COEFFICIENT, 1, (margins_reading){160, 0});
+    weigh(MARGINS_CODE_COEFFICIENT, -1, (margins_reading){160, 0});
     unpack(MARGINS_MOST_INSTRUCTIONS);
     unpack(1);
     for (uint32_t refusal = 0; refusal <= MARGINS_REFUSED_FORM + 1; refusal++)

@@ -1,4 +1,4 @@
-"""A second packer, and a second way back into lists, written from document 02's request a: the file is one string of '0' and '1'.
+"""A second packer, and a second way back into lists, written from document 02's requests a and b: the file is one string of '0' and '1'.
 
 A formula as lists is (scale, inputs, codes, firsts, seconds, outputs), any of its numbers permitted or not.
 """
@@ -6,11 +6,9 @@ A formula as lists is (scale, inputs, codes, firsts, seconds, outputs), any of i
 from functools import lru_cache
 
 from evaluator import formula
-from reader import Refused
+from reader import LARGEST, NAMES, Refused
 
-LARGEST = 2147483647
-NAMES = ("constant", "negate", "add", "subtract", "multiply")
-CONSTANT, NEGATE = 0, 1
+CONSTANT, NEGATE, COEFFICIENT = map(NAMES.index, ("constant", "negate", "coefficient"))
 
 
 def bits(number, width, least, most, refusal):
@@ -27,10 +25,19 @@ def header(scale, inputs, lengths, outputs):
     return text + bits(lengths[0], 10, 0, 512, 4) + bits(outputs, 5, 1, 16, 4)
 
 
+def coefficient(centre, margin):
+    """A centre leaves this much room for its margin; none where it is itself too large."""
+    room = LARGEST - abs(centre)
+    text = bits(margin, 31, 0, room, 7)
+    return bits(centre, 32, -LARGEST, LARGEST, 7) + text
+
+
 def instruction(code, first, second, value):
-    text = bits(code, 3, 0, 4, 5)
+    text = bits(code, 3, 0, len(NAMES) - 1, 5)
     if code == CONSTANT:
         return text + bits(first, 32, -LARGEST, LARGEST, 7)
+    if code == COEFFICIENT:
+        return text + coefficient(first, second)
     text += bits(first, 10, 0, value - 1, 6)
     return text if code == NEGATE else text + bits(second, 10, 0, value - 1, 6)
 

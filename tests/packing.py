@@ -10,18 +10,24 @@ import packer
 import packing_cases
 import packing_frames as frames
 import reader
-from checks import longest
-from figures import EXAMPLE
+from checks import longest, longest_exact
+from figures import EXAMPLE, WEIGHT
 
 CHUNK = 4000
 DIFFERENCES_SHOWN = 5
 REFUSALS = {frames.Pack: (0, 3, 4, 5, 6, 7, 10), frames.Unpack: (0, 1, 2, 3, 4, 5, 6, 7, 8, 10)}
-# What documents say of lists: document 01's example, the README's formula, the longest one, and an output that can name nothing.
+# What documents say of lists: document 01's example, the README's formula, a coefficient, the longest ones, an output that can name
+# nothing, and coefficients out of reach or with a margin below 0.
 FIGURES = (
     ((4, 2, (4, 2), (0, 2), (1, 0), (3,)), (0, EXAMPLE)),
     ((4, 3, (0, 3, 4, 2), (4, 1, 0, 5), (0, 3, 4, 2), (6,)), (0, bytes.fromhex("02418081000000008c0100e000022014020180"))),
+    ((4, 1, (5, 4), (2, 0), (1, 1), (2, 1)), (0, WEIGHT)),
     (packer.lists_of(longest()), (0, longest())),
+    (packer.lists_of(longest_exact()), (0, longest_exact())),
     ((0, 0, (), (), (), (0,)), (6, b"")),
+    ((0, 0, (5,), (packer.LARGEST,), (1,), (0,)), (7, b"")),
+    ((0, 0, (5,), (5,), (-1,), (0,)), (7, b"")),
+    ((0, 0, (5,), (-(1 << 31),), (0,), (0,)), (7, b"")),
 )
 
 

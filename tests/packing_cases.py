@@ -4,12 +4,12 @@ at once, random lists. Reading back: files whole, cut and damaged, into lists of
 import random
 from itertools import islice, product
 
-from checks import all_checks, longest
+from checks import all_checks, longest, longest_exact
 from cuts import INPUTS, PLACES_IN_A_BYTE, all_cuts
 from damage import damaged, misfielded, roomy, short
 from evaluator import formula
 from formulas import large_run, small_run
-from packer import CONSTANT, LARGEST, NEGATE, lists_of, packed
+from packer import COEFFICIENT, CONSTANT, LARGEST, NAMES, NEGATE, lists_of, packed
 from packing_frames import Pack, Unpack
 from reader import Refused
 
@@ -18,12 +18,23 @@ NUMBERS = (
     *(2, 3, 4, 5, 6, 7, 8, 15, 16, 17, 30, 31, 32, 33, 255, 256, 512, 1023, 1024, 1025, 1033, 32768, 65536, 65541, (1 << 31) - 2),
     *((1 << 31) - 1, 1 << 31, (1 << 31) + 1, (1 << 32) - 1, 1 << 32, (1 << 32) + 5, 1 << 62, (1 << 63) - 1),
 )
+# Numbers of a coefficient whose reach is at its limit, or would be within it if sums were cut to 32 or 64 bits.
+CENTRES = (
+    *(-(1 << 63), 1 - (1 << 63), -(1 << 32) - 1, -(1 << 31) - 1, -(1 << 31), -LARGEST, 1 - LARGEST, -(1 << 30), -1, 0, 1, 2, 1 << 30),
+    *(LARGEST - 1, LARGEST, 1 << 31, (1 << 32) - 1, 1 << 32, (1 << 32) + 1, (1 << 63) - 1),
+)
+MARGINS = (
+    *(-(1 << 63), 1 - (1 << 63), -(1 << 32), -(1 << 31), -2, -1, 0, 1, 2, (1 << 30) - 1, 1 << 30, LARGEST - 1, LARGEST, 1 << 31),
+    *((1 << 31) + 1, (1 << 32) - 1, 1 << 32, (1 << 32) + 1, (1 << 63) - 2, (1 << 63) - 1),
+)
 LENGTHS = (0, 1, 511, 512, 513, 1023, 1024, 1025, 1536)
 # More than a count of 16 bits holds.
 LONG = 65537
 # Where the numbers stand in a formula as lists.
 SCALE, HAS_INPUTS, CODES, FIRSTS, SECONDS, OUTPUTS = range(6)
-WRONGS = ("scale", "inputs", "lists", "outputs", "code", "first", "second", "constant", "output", "room")
+WRONGS = ("scale", "inputs", "lists", "outputs", "code", "first", "second", "constant", "coefficient", "output", "room")
+# More than the longest formula has.
+ENOUGH = 4300
 PAIRS_EACH = 100
 RANDOM_LISTS = 10000
 RANDOM_FILES = 3000
@@ -67,16 +78,28 @@ def fields():
     for before in range(PLACES_IN_A_BYTE):
         value = INPUTS + before
         for number in (*NUMBERS, value - 1, value, value + 1):
-            for row in ((number, 9, 9), *((code, number, 9) for code in range(5)), *((code, 9, number) for code in range(5))):
+            for row in ((number, 9, 9), *(row for code in range(len(NAMES)) for row in ((code, number, 9), (code, 9, number)))):
                 yield lists(4, INPUTS, [(4, 9, 0)] * before + [row, (1, 0, 0)], [0])
             for index in range(3):
                 yield put(lists(4, INPUTS, [(4, 9, 0)] * before, [9, 8, 7]), OUTPUTS, number, index)
 
 
+def coefficients():
+    """Each centre with each margin, at every place within a byte; then as the last instruction, with every number of outputs."""
+    for before, centre, margin in product(range(PLACES_IN_A_BYTE), CENTRES, MARGINS):
+        yield lists(4, INPUTS, [(4, 9, 0)] * before + [(COEFFICIENT, centre, margin), (1, 0, 0)], [0])
+    for before, centre, outputs in product(range(PLACES_IN_A_BYTE), (-LARGEST, -1, 0, 1, LARGEST), range(1, 17)):
+        room = LARGEST - abs(centre)
+        for margin in (0, room, room + 1):
+            yield lists(4, INPUTS, [(4, 9, 0)] * before + [(COEFFICIENT, centre, margin)], [INPUTS + before] * outputs)
+
+
 def rooms():
     """Every length of the buffer, with every number of bits in the last byte."""
-    small = [lists(4, 2, [(1, 0, 0)] * count, [1] * outputs) for count, outputs in product(range(5), (1, 2))]
-    for given in (*small, lists(30, 16, [(0, LARGEST, 7), (4, 15, 16)], range(16)), lists_of(longest())):
+    rows = (1, 0, 0), (COEFFICIENT, -LARGEST, 0)
+    small = [lists(4, 2, [row] * count, [1] * outputs) for row, count, outputs in product(rows, range(5), (1, 2))]
+    large = lists(30, 16, [(0, LARGEST, 7), (4, 15, 16), (5, -1, LARGEST - 1)], range(16))
+    for given in (*small, large, lists_of(longest()), lists_of(longest_exact())):
         yield from (Pack(given, room) for room in range(len(packed(*given)) + 10))
 
 
@@ -84,14 +107,22 @@ def any_number(rng):
     return rng.choice(NUMBERS) if rng.random() < 0.7 else rng.randrange(-(1 << 63), 1 << 63)
 
 
+def random_fields(rng, code, value):
+    """Both fields of an instruction that makes this value."""
+    if code not in (CONSTANT, COEFFICIENT):
+        return rng.randrange(value), any_number(rng) if code == NEGATE else rng.randrange(value)
+    number = rng.choice((LARGEST, -LARGEST, 0, -1, rng.randrange(-LARGEST, LARGEST + 1)))
+    room = LARGEST - abs(number)
+    return number, any_number(rng) if code == CONSTANT else rng.choice((0, room, rng.randrange(room + 1)))
+
+
 def random_lists(rng, instructions):
     """Lists that are accepted; a field that the code does not have is any number."""
     inputs = rng.choice((0, 1, 2, 5, 15, 16))
     program = []
     for value in range(inputs, inputs + instructions):
-        code = rng.randrange(5) if value else CONSTANT
-        first = rng.choice((LARGEST, -LARGEST, 0, -1, rng.randrange(-LARGEST, LARGEST + 1))) if code == CONSTANT else rng.randrange(value)
-        program.append((code, first, rng.randrange(value) if code > NEGATE else any_number(rng)))
+        code = rng.randrange(len(NAMES)) if value else rng.choice((CONSTANT, COEFFICIENT))
+        program.append((code, *random_fields(rng, code, value)))
     outputs = [rng.randrange(inputs + instructions) for _ in range(rng.choice((1, 1, 2, 3, 15, 16)))]
     return lists(rng.randrange(31), inputs, program, outputs)
 
@@ -116,9 +147,12 @@ def misfilled(rng, given, what):
         return given
     index = rng.randrange(places)
     if what == "code":
-        return put(given, CODES, rng.choice((-1, 5, 7, 8, any_number(rng))), index)
+        return put(given, CODES, rng.choice((-1, 6, 7, 8, any_number(rng))), index)
     if what == "constant":
         return put(put(given, CODES, CONSTANT, index), FIRSTS, rng.choice((-LARGEST - 1, LARGEST + 1, any_number(rng))), index)
+    if what == "coefficient":
+        given = put(put(given, CODES, COEFFICIENT, index), FIRSTS, rng.choice((*CENTRES, any_number(rng))), index)
+        return put(given, SECONDS, rng.choice((*MARGINS, any_number(rng))), index)
     value = given[HAS_INPUTS] + (len(given[CODES]) if what == "output" else index)
     number = rng.choice((-1, value - 1, value, value + 1, value + 1024, any_number(rng)))
     part = {"first": FIRSTS, "second": SECONDS, "output": OUTPUTS}[what]
@@ -161,6 +195,7 @@ def random_packs(rng):
 def whole_files(rng, count):
     """Formulas that are accepted."""
     yield longest()
+    yield longest_exact()
     for i in range(count):
         yield (small_run if i % LARGE_EVERY else large_run)(rng, 1)[0]
 
@@ -176,8 +211,8 @@ def needed(data):
 
 def lengths_near():
     """Every length of each lent list around what a formula needs, alone and together."""
-    small = packed(*lists(4, 2, [(4, 0, 1), (0, -5, 0), (1, 2, 0), (2, 3, 4), (3, 5, 0)], [6, 0, 2]))
-    for data in (small, longest()):
+    small = packed(*lists(4, 2, [(4, 0, 1), (0, -5, 0), (1, 2, 0), (2, 3, 4), (3, 5, 0), (5, -7, 3)], [7, 0, 2]))
+    for data in (small, longest(), longest_exact()):
         for number, length in product(range(4), (*range(20), 511, 512, 513, 1024)):
             yield Unpack(data, tuple(length if i == number else enough for i, enough in enumerate(needed(data))))
         for more in product((-1, 0, 1), repeat=4):
@@ -194,9 +229,9 @@ def read_files(rng):
 
 
 def all_packs(rng):
-    for given in (*headers(), *list_lengths(), *fields()):
-        yield Pack(given, rng.choice((0, 40, 2300)))
-        yield Pack(given, 2300)
+    for given in (*headers(), *list_lengths(), *fields(), *coefficients()):
+        yield Pack(given, rng.choice((0, 40, ENOUGH)))
+        yield Pack(given, ENOUGH)
     yield from rooms()
     yield from wrong_pairs(rng)
     yield from random_packs(rng)

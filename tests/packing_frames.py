@@ -16,7 +16,7 @@ import packer
 from frames import HEAD, INTACT, SENTINELS, sentinel
 
 LISTS = ("codes", "firsts", "seconds", "outputs")
-LONGEST_BUFFER = 4096
+LONGEST_BUFFER = 8192
 BUFFER_SENTINELS = bytes(sentinel(len(LISTS), i) & 255 for i in range(LONGEST_BUFFER))
 
 

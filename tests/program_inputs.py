@@ -3,10 +3,10 @@
 import random
 
 import reader
-from checks import longest
-from cuts import HEADERS, INPUTS, REFUSED
+from checks import longest, longest_exact
+from cuts import COEFFICIENTS, HEADERS, INPUTS, REFUSED
 from damage import wrong_readings
-from figures import EXAMPLE, EXAMPLES
+from figures import EXAMPLE, EXAMPLES, WEIGHED, WEIGHT
 from formulas import large_run, small_run
 from program_malformed import READING, WORDS, malformed, text
 
@@ -58,12 +58,28 @@ def refused_formulas():
         yield "formula of no bytes", text(b"", word, [])
 
 
+def coefficients():
+    """A weight of 0.1 in each job; coefficients at their limits, and sums with them; files cut before, inside and behind one."""
+    for value, _ in WEIGHED:
+        yield "a weight of 0.1", text(WEIGHT, WORDS[len(value) - 1], [" ".join(map(str, value)).encode()])
+    for word in WORDS:
+        yield "a weight alone, too many readings", text(reader.pack(4, 0, [(5, 2, 1)], [0]), word, [READING[word]])
+        for row in COEFFICIENTS:
+            yield "a coefficient", text(reader.pack(4, 0, [row, (1, 0)], [0, 1]), word, [])
+            yield "a sum with a coefficient", text(reader.pack(0, 1, [row, (2, 0, 1)], [2]), word, [READING[word]])
+    for centre, margin in ((2, 1), (-(1 << 31), 0)):
+        data = reader.pack(4, 1, [(5, centre, margin), (4, 0, 1)], [2])
+        for size in range(len(data) + 1):
+            yield "a cut formula with a coefficient", text(data[:size], b"ball", [b"160 0"])
+
+
 def counts():
     """A wrong number of reading lines, up to what fits; and numbers of them at the limits."""
     for word in WORDS:
         for count in (0, 1, 3, 16, 17, 18, 100, 500):
             yield f"{count} readings for two inputs", text(EXAMPLE, word, [READING[word]] * count)
         yield "longest formula", text(longest(), word, [READING[word]] * 16)
+        yield "longest formula of constants", text(longest_exact(), word, [READING[word]] * 16)
     yield "too many readings for a refused formula", text(EXAMPLE[:-1], b"plain", [b"1"] * 40)
     yield "no inputs, no readings", text(reader.pack(4, 0, [(0, -5)], [0]), b"admit", [])
 
@@ -87,5 +103,5 @@ def sizes():
 def all_inputs(seed=1):
     yield from examples()
     yield from random_runs(random.Random(seed))
-    for some in (refused_formulas, counts, sizes, malformed):
+    for some in (refused_formulas, coefficients, counts, sizes, malformed):
         yield from some()

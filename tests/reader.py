@@ -1,4 +1,7 @@
-"""A second reader of packed formulas, written from document 01: the file is one string of '0' and '1'."""
+"""A second reader of packed formulas, written from document 01 and document 02's request b: the file is one string of '0' and '1'."""
+
+LARGEST = 2147483647
+NAMES = ("constant", "negate", "add", "subtract", "multiply", "coefficient")
 
 
 class Refused(Exception):
@@ -51,17 +54,34 @@ def operand(bits, below):
     return name
 
 
+def signed(bits):
+    number = bits.field(32)
+    return number - (1 << 32) if number >> 31 else number
+
+
+def constant(bits):
+    number = signed(bits)
+    if number == -(1 << 31):
+        raise Refused(7)
+    return (number,)
+
+
+def coefficient(bits):
+    """A centre and a margin; either is tested when both were read."""
+    centre, margin = signed(bits), bits.field(31)
+    if centre == -(1 << 31) or abs(centre) + margin > LARGEST:
+        raise Refused(7)
+    return centre, margin
+
+
 def instruction(bits, value):
     code = bits.field(3)
-    if code >= 5:
+    if code >= len(NAMES):
         raise Refused(5)
-    if code == 0:
-        number = bits.field(32)
-        if number == 1 << 31:
-            raise Refused(7)
-        return ("constant", number - (1 << 32) if number >> 31 else number)
-    names = [operand(bits, value) for _ in range(1 if code == 1 else 2)]
-    return (("negate", "add", "subtract", "multiply")[code - 1], *names)
+    name = NAMES[code]
+    if name in ("constant", "coefficient"):
+        return (name, *(constant if name == "constant" else coefficient)(bits))
+    return (name, *(operand(bits, value) for _ in range(1 if name == "negate" else 2)))
 
 
 def formula(data):
@@ -78,8 +98,8 @@ def pack(scale, m, program, outputs, version=1, n=None, l=None):
     """The bytes of a formula, its fields as they are given, permitted or not."""
     fields = [(version, 7), (scale, 5), (m, 5), (len(program) if l is None else l, 10), (len(outputs) if n is None else n, 5)]
     for code, *rest in program:
-        fields.append((code, 3))
-        fields += [(rest[0] & 0xFFFFFFFF, 32)] if code == 0 else [(name, 10) for name in rest]
+        widths = {0: (32,), 5: (32, 31)}.get(code, (10, 10))
+        fields += [(code, 3), *((number % (1 << width), width) for number, width in zip(rest, widths))]
     fields += [(name, 10) for name in outputs]
     text = "".join(format(number, f"0{width}b") for number, width in fields)
     text += "0" * (-len(text) % 8)

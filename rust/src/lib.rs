@@ -41,7 +41,7 @@ pub const MOST_INSTRUCTIONS: usize = 512;
 /// Values, inputs and instructions together, that a formula has at most.
 pub const MOST_VALUES: usize = 528;
 /// Bytes that a formula has at most.
-pub const MOST_BYTES: usize = 2264;
+pub const MOST_BYTES: usize = 4248;
 
 /// What a formula's header says.
 #[derive(Clone, Copy, Debug, PartialEq, Eq, Hash)]

@@ -15,11 +15,11 @@ pub enum Refusal {
     Scale,
     /// 4: the number of inputs, instructions or outputs is outside its limits, or the instructions' lists differ in length.
     Count,
-    /// 5: the code is outside 0 to 4.
+    /// 5: the code is outside 0 to 5.
     Code,
     /// 6: an operand or output names no permitted value.
     Operand,
-    /// 7: a constant is outside -2147483647 to 2147483647.
+    /// 7: a constant is outside -2147483647 to 2147483647, or its margin is below 0 or reaches outside.
     Constant,
     /// 8: a padding bit is set or a byte follows.
     Padding,
@@ -74,9 +74,9 @@ impl Refusal {
             Refusal::Count => {
                 (4, "the number of inputs, instructions or outputs is outside its limits, or the instructions' lists differ in length")
             }
-            Refusal::Code => (5, "the code is outside 0 to 4"),
+            Refusal::Code => (5, "the code is outside 0 to 5"),
             Refusal::Operand => (6, "an operand or output names no permitted value"),
-            Refusal::Constant => (7, "a constant is outside -2147483647 to 2147483647"),
+            Refusal::Constant => (7, "a constant is outside -2147483647 to 2147483647, or its margin is below 0 or reaches outside"),
             Refusal::Padding => (8, "a padding bit is set or a byte follows"),
             Refusal::Readings => (9, "the number of readings isn't that of the inputs, or one is outside its limits"),
             Refusal::NoRoom => (10, "a list to be written is too short"),

@@ -24,30 +24,43 @@ fn the_example_is_packed_and_read_back() {
 
 #[test]
 fn every_code_goes_both_ways() {
-    let (codes, firsts) = ([CONSTANT, NEGATE, ADD, SUBTRACT, MULTIPLY], [-LIMIT, 0, 1, 0, 3]);
-    let (given, read) = ([i64::MIN, i64::MAX, 2, 1, 4], [0, 0, 2, 1, 4]);
+    let (codes, firsts) = ([CONSTANT, NEGATE, ADD, SUBTRACT, MULTIPLY, COEFFICIENT], [-LIMIT, 0, 1, 0, 3, 1 - LIMIT]);
+    let (given, read) = ([i64::MIN, i64::MAX, 2, 1, 4, 1], [0, 0, 2, 1, 4, 1]);
     let mut bytes = [0; MOST_BYTES];
     let count = pack(30, 1, &codes, &firsts, &given, &[5, 0], &mut bytes).unwrap();
 
     let (mut lists, mut outputs) = (Instructions::default(), [0; MOST_OUTPUTS]);
     let header = unpack(&bytes[..count], lists.lent(), &mut outputs).unwrap();
-    assert_eq!(header, Formula { scale: 30, inputs: 1, instructions: 5, outputs: 2 });
-    assert_eq!((&lists.codes[..5], &lists.firsts[..5], &lists.seconds[..5]), (&codes[..], &firsts[..], &read[..]));
+    assert_eq!(header, Formula { scale: 30, inputs: 1, instructions: 6, outputs: 2 });
+    assert_eq!((&lists.codes[..6], &lists.firsts[..6], &lists.seconds[..6]), (&codes[..], &firsts[..], &read[..]));
 
     let mut again = vec![0; count];
-    let (codes, firsts, seconds) = (&lists.codes[..5], &lists.firsts[..5], &lists.seconds[..5]);
+    let (codes, firsts, seconds) = (&lists.codes[..6], &lists.firsts[..6], &lists.seconds[..6]);
     assert_eq!(pack(header.scale.into(), header.inputs as i64, codes, firsts, seconds, &outputs[..2], &mut again), Ok(count));
     assert_eq!(again, bytes[..count]);
 }
 
 #[test]
 fn the_longest_formula_has_the_most_bytes() {
-    let (zeros, outputs) = ([0; MOST_INSTRUCTIONS + 1], [527; MOST_OUTPUTS]);
+    let (codes, zeros, outputs) = ([COEFFICIENT; MOST_INSTRUCTIONS + 1], [0; MOST_INSTRUCTIONS + 1], [527; MOST_OUTPUTS]);
     let mut bytes = [0; MOST_BYTES];
-    let (inputs, most) = (MOST_INPUTS as i64, &zeros[1..]);
-    assert_eq!(pack(0, inputs, most, most, most, &outputs, &mut bytes), Ok(MOST_BYTES));
-    assert_eq!(pack(0, inputs, most, most, most, &outputs, &mut bytes[1..]), Err(Refusal::NoRoom.into()));
-    assert_eq!(pack(0, inputs, &zeros, &zeros, &zeros, &outputs, &mut bytes), Err(Refusal::Count.into()));
+    let (inputs, most, none) = (MOST_INPUTS as i64, &codes[1..], &zeros[1..]);
+    assert_eq!(pack(0, inputs, most, none, none, &outputs, &mut bytes), Ok(MOST_BYTES));
+    assert_eq!(pack(0, inputs, most, none, none, &outputs, &mut bytes[1..]), Err(Refusal::NoRoom.into()));
+    assert_eq!(pack(0, inputs, &codes, &zeros, &zeros, &outputs, &mut bytes), Err(Refusal::Count.into()));
+    assert_eq!(pack(0, inputs, none, none, none, &outputs, &mut bytes), Ok(2264));
+}
+
+#[test]
+fn a_coefficient_keeps_its_doubt() {
+    // The weight 0.1 at scale 4, times 10: 1.6 units were rounded to 2, and the exact product is 16 units.
+    let mut bytes = [0; MOST_BYTES];
+    for (code, margin, expected) in [(CONSTANT, 1, 0), (COEFFICIENT, 0, 0), (COEFFICIENT, 1, 10)] {
+        let count = pack(4, 1, &[code, MULTIPLY], &[2, 0], &[margin, 1], &[2], &mut bytes).unwrap();
+        let (mut work, mut output) = (Balls::default(), Balls::default());
+        assert_eq!(ball(&bytes[..count], &[160], &[0], work.lent(), output.lent()), Ok(1));
+        assert_eq!((output.centres[0], output.margins[0]), (20, expected));
+    }
 }
 
 #[test]
@@ -62,8 +75,8 @@ fn packing_refuses_the_first_field_that_is_wrong() {
     assert_eq!(pack(0, 1, &[9], &[0, 0], &[0], &[0], &mut bytes), Err(Refusal::Count.into()));
     assert_eq!(pack(0, 1, &[9], &[0], &[], &[0], &mut bytes), Err(Refusal::Count.into()));
     assert_eq!(pack(0, 1, &[9], &[0], &[0], &[], &mut bytes), Err(Refusal::Count.into()));
-    assert_eq!(pack(0, 1, &[CONSTANT, 5], &[LIMIT, 0], &[0, 0], &[9], &mut bytes), Err(Refusal::Code.into()));
-    assert_eq!(pack(0, 1, &[CONSTANT, 5], &[LIMIT + 1, 0], &[0, 0], &[9], &mut bytes), Err(Refusal::Constant.into()));
+    assert_eq!(pack(0, 1, &[CONSTANT, 6], &[LIMIT, 0], &[0, 0], &[9], &mut bytes), Err(Refusal::Code.into()));
+    assert_eq!(pack(0, 1, &[CONSTANT, 6], &[LIMIT + 1, 0], &[0, 0], &[9], &mut bytes), Err(Refusal::Constant.into()));
     assert_eq!(pack(0, 1, &[NEGATE], &[0], &[0], &[2], &mut []), Err(Refusal::Operand.into()));
     assert_eq!(pack(0, 1, &[NEGATE], &[0], &[0], &[1], &mut bytes[..6]), Err(Refusal::NoRoom.into()));
     assert_eq!(bytes, [7; 16]);
@@ -71,11 +84,20 @@ fn packing_refuses_the_first_field_that_is_wrong() {
 
 #[test]
 fn each_field_has_its_limits() {
-    for code in [-1, 5, 8, i64::MIN, 1 << 32] {
+    for code in [-1, 6, 7, 8, i64::MIN, 1 << 32] {
         assert_eq!(packed(code, 0, 0, 0), Err(Refusal::Code.into()));
     }
     for constant in [-LIMIT - 1, LIMIT + 1, i64::MIN, i64::MAX, 1 << 32] {
         assert_eq!(packed(CONSTANT, constant, 0, 0), Err(Refusal::Constant.into()));
+        assert_eq!(packed(COEFFICIENT, constant, 0, 0), Err(Refusal::Constant.into()));
+    }
+    for (centre, margin) in
+        [(0, -1), (LIMIT, 1), (-LIMIT, 1), (1, LIMIT), (0, LIMIT + 1), (5, i64::MIN), (5, i64::MAX), (i64::MIN, i64::MAX)]
+    {
+        assert_eq!(packed(COEFFICIENT, centre, margin, 0), Err(Refusal::Constant.into()));
+    }
+    for (centre, margin) in [(0, 0), (LIMIT, 0), (-LIMIT, 0), (LIMIT - 1, 1), (1 - LIMIT, 1), (0, LIMIT)] {
+        assert_eq!(packed(COEFFICIENT, centre, margin, 0), Ok(14));
     }
     for name in [-1, 2, 1024, i64::MIN, 1 << 32] {
         assert_eq!(packed(NEGATE, name, 0, 0), Err(Refusal::Operand.into()));

@@ -56,6 +56,9 @@ fn check_refuses_with_each_number_of_the_file() {
     assert_eq!(damaged(10, 0x07).refusal, Refusal::Operand);
     let lowest = [0x02, 0x00, 0x00, 0x21, 0x10, 0, 0, 0, 0, 0, 0];
     assert_eq!(check(&lowest).unwrap_err().refusal, Refusal::Constant);
+    let lowest = [0x02, 0x00, 0x00, 0x21, 0xb0, 0, 0, 0, 0, 0, 0, 0, 0, 0];
+    assert_eq!(check(&lowest).unwrap_err().refusal, Refusal::Constant);
+    assert_eq!(check(&lowest[..12]).unwrap_err().refusal, Refusal::Ended);
     assert_eq!(check(&[&FORMULA[..], &[0]].concat()).unwrap_err().refusal, Refusal::Padding);
 }
 

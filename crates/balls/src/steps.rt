@@ -77,3 +77,13 @@ pub fn multiply(scale: u32, x: Ball, y: Ball) -> BallStep
         margin,
     })
 }
+
+pub fn coefficient(c: i64, r: u64) -> BallStep
+    requires { ⌜ r < 2 ^ 63 ⌝ }
+    ensures { λ got. ⌜ AtEveryScale ball-rule (Operation.coefficient c r) (ball-answer got) ⌝ }
+{
+    keep(Ball {
+        centre: c,
+        margin: r,
+    })
+}

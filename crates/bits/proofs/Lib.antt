@@ -2,5 +2,6 @@
 pub mod Digits
 pub mod Gather
 pub mod Ends
+pub mod Endings
 pub mod Take
 pub mod OneField

@@ -33,6 +33,14 @@ abbrev pub Ahead : ℕ → List ℕ → ℕ → Type 0
 Ahead n bs x =
     (o w : ℕ) → 1 ≤ w → o + w ≤ n → o + w ≤ length bs → x / 2 ^ (64 - (o + w)) % 2 ^ w ≡ number (take w (drop o bs))
 
+-- a field of w bits ends at a place that the bytes reach, with eight bytes up to it
+pub record EndsAt (s : List ℕ) (end w : ℕ) : Type 0 where
+  pub some : 1 ≤ w
+  pub narrow : w ≤ 32
+  pub eight-there : 64 ≤ end
+  pub near : end ≤ 2 ^ 32
+  pub reaches : end ≤ 8 * length s
+
 -- every field of up to 57 bits lies in eight bytes, whatever bit it starts at
 pub record IsAhead (s : List ℕ) (c : Cursor) (r : ℕ) : Type 0 where
   pub is : r ≡ ahead-of s c

@@ -1,9 +1,10 @@
 // A bit cursor over bytes. A field is gathered from its bytes at once, whatever bit it starts at.
 ghost use mathlib.Core.Path.{_≡_};
-ghost use Prim.Native.Nat.{_+_, _*_, _^_, _≤_, _<_};
-ghost use Rattle.bits.specs.Bits.{IsWindow};
+ghost use Prim.Native.Nat.{_+_, _-_, _*_, _^_, _≤_, _<_};
+ghost use lib.ListN.{length, take, drop};
+ghost use Rattle.bits.specs.Bits.{bits, number, IsWindow};
 ghost use Rattle.bits.specs.Reader.{field};
-ghost use Rattle.bits.specs.Fields.{before, field-answer, Advanced, IsAhead};
+ghost use Rattle.bits.specs.Fields.{before, field-answer, Advanced, IsAhead, EndsAt};
 
 // So many bits from the first.
 pub struct Cursor {
@@ -61,25 +62,43 @@ fn rest(s: &[u8], i: usize) -> u64
     four * 0x1_0000_0000 + gathered(s, i + 4) / 0x1_0000_0000
 }
 
-// The eight bytes from the i-th on, as one number; past the end they are 0.
+// The eight bytes from the i-th on, as one number; all of them are there.
+fn eight(s: &[u8], i: usize) -> u64
+    requires { ⌜ (i ≤ 2 ^ 32) × (i + 8 ≤ length (now s)) ⌝ }
+    ensures { λ r. ⌜ IsWindow (now (s .entry)) i r ⌝ }
+{
+    joined(
+        wide(s[i]),
+        wide(s[i + 1]),
+        wide(s[i + 2]),
+        wide(s[i + 3]),
+        wide(s[i + 4]),
+        wide(s[i + 5]),
+        wide(s[i + 6]),
+        wide(s[i + 7]),
+    )
+}
+
+// The same; past the end they are 0.
 fn window(s: &[u8], i: usize) -> u64
     requires { ⌜ i ≤ 2 ^ 32 ⌝ }
     ensures { λ r. ⌜ IsWindow (now (s .entry)) i r ⌝ }
 {
     if i + 8 <= s.len() {
-        joined(
-            wide(s[i]),
-            wide(s[i + 1]),
-            wide(s[i + 2]),
-            wide(s[i + 3]),
-            wide(s[i + 4]),
-            wide(s[i + 5]),
-            wide(s[i + 6]),
-            wide(s[i + 7]),
-        )
+        eight(s, i)
     } else {
         rest(s, i)
     }
+}
+
+// The field of so many bits that ends at a place, with eight bytes there up to it.
+pub fn ending(s: &[u8], end: usize, width: u32) -> u64
+    requires { ⌜ EndsAt (now s) end width ⌝ }
+    ensures { λ r. ⌜ r ≡ number (take width (drop (end - width) (bits (now (s .entry))))) ⌝ }
+{
+    let last = (end + 7) / 8;
+    let behind = 8 * last - end;
+    (eight(s, last - 8) >> behind as u32) % (1u64 << width)
 }
 
 // The bits from a cursor on, the first on top: a place in them is the same whatever bit the cursor stands at.

@@ -16,7 +16,7 @@ use Rattle.formulas.specs.declared.Header.{Header}
 use Rattle.formulas.specs.declared.Instruction.{Instruction}
 use Rattle.formulas.specs.Formula.{Formula}
 use Rattle.packed.specs.Items.{Form, done, read, _>>=_}
-use Rattle.packed.specs.Format.{header, program, results, is-padding}
+use Rattle.packed.specs.Format.{header, program, results, is-padding, widest}
 use Rattle.packed.specs.Meaning.{body, if-padded, formula, checked}
 use Rattle.packed.proofs.InTurn.{read-bind}
 use Rattle.heading.specs.declared.Passed.{Passed}
@@ -75,7 +75,7 @@ module _ (h : Header) where
 -- ---- the body, as the code goes through it
 
 module _ {s : List ℕ} (h : Header) {c : Cursor} {p : Passed}
-    (a : PassedOver s (program (h .instructions) (h .inputs)) (35 * h .instructions) c p) where
+    (a : PassedOver s (program (h .instructions) (h .inputs)) (widest * h .instructions) c p) where
   pub program-stops : {r : Refusal} → p ≡ passed.Refused r → BodyPassed s h c p
   program-stops u =
       let e = by-case (passed-answer s) (a .answers) u in

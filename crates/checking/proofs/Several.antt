@@ -22,7 +22,7 @@ use Rattle.formulas.specs.declared.Instruction.{Instruction}
 use Rattle.packed.specs.declared.InstructionRead.{InstructionRead}
 use Rattle.packed.specs.declared.InstructionRead.the-variants as instruction-read
 use Rattle.packed.specs.Items.{from-below, operand, Form, done, item, read, _>>=_}
-use Rattle.packed.specs.Format.{several, instruction, wide}
+use Rattle.packed.specs.Format.{several, instruction, wide, widest}
 use Rattle.packed.specs.ReaderAnswers.{instruction-answer, Instructed}
 use Rattle.packed.proofs.FieldIn.{test-cut, test-failed, test-passed, above-out, between}
 use Rattle.packed.proofs.Instructions.{wide-most}
@@ -48,7 +48,7 @@ module _ {s : List ℕ} {v : ℕ} {c : Cursor} {q : InstructionRead} (e : Instru
     instruction-on : GoesOn s (instruction v) c d
     instruction-on = record { got = i; is = by-case (instruction-answer s) (e .answers) u }
 
-    instruction-near : d .at ≤ c .at + 35
+    instruction-near : d .at ≤ c .at + widest
     instruction-near = let p : d .at ≡ c .at + wide i = rw u at (e .past) in omega (arith, p, wide-most i)
 
 module _ {s : List ℕ} {v : ℕ} {c : Cursor} {f : Field} (e : field-answer s f ≡ field 10 (before s c)) where
@@ -173,17 +173,17 @@ pub eight-there : (s : List ℕ) (c : Cursor) {b : Bool} → b ≡ ltb (length s
     → c .at / 8 + 8 ≤ length s
 eight-there s c e f = ltb-false (length s) (c .at / 8 + 8) (sym e ∙ f)
 
-pub instructions-near : {s : List ℕ} {c at : Cursor} {v n k : ℕ} → Passing instruction 35 s c v n at k → c .at ≤ 32
-    → n ≤ 512 → at .at ≤ 2 ^ 15
+pub instructions-near : {s : List ℕ} {c at : Cursor} {v n k : ℕ} → Passing instruction widest s c v n at k → c .at ≤ 32
+    → n ≤ 512 → at .at ≤ 2 ^ 16
 instructions-near p l m = omega (arith, p .near, p .most)
 
 module _ {s : List ℕ} {c at : Cursor} {v n k : ℕ} {q : InstructionRead} where
   pub instruction-refused : {r : Refusal} → q ≡ instruction-read.Refused r → Instructed s (v + k) at q
-      → Passing instruction 35 s c v n at k → (k ≡ n → ⊥) → PassedOver s (several instruction n v) (35 * n) c (Refused r)
-  instruction-refused u e p other = one-refused instruction 35 s c v n p other (instruction-stops e u)
+      → Passing instruction widest s c v n at k → (k ≡ n → ⊥) → PassedOver s (several instruction n v) (widest * n) c (Refused r)
+  instruction-refused u e p other = one-refused instruction widest s c v n p other (instruction-stops e u)
 
   pub instruction-passed : {i : Instruction} {d : Cursor} → q ≡ instruction-read.Got i d
-      → Instructed s (v + k) at q → Passing instruction 35 s c v n at k → (k ≡ n → ⊥)
-      → Passing instruction 35 s c v n d (k + 1)
+      → Instructed s (v + k) at q → Passing instruction widest s c v n at k → (k ≡ n → ⊥)
+      → Passing instruction widest s c v n d (k + 1)
   instruction-passed u e p other =
-      one-passed instruction 35 s c v n p other (instruction-on e u) (instruction-near e u)
+      one-passed instruction widest s c v n p other (instruction-on e u) (instruction-near e u)

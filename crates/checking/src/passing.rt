@@ -1,6 +1,6 @@
 // All the instructions and all the outputs, tested one after another; only the place after them is kept.
 ghost use Prim.Native.Nat.{_*_, _^_, _≤_};
-ghost use Rattle.packed.specs.Format.{program, results};
+ghost use Rattle.packed.specs.Format.{program, results, widest};
 ghost use Rattle.checking.specs.CheckAnswers.{PassedOver};
 use bits::Cursor;
 use bits::Field;
@@ -14,7 +14,7 @@ use refusals::Refusal;
 // `count` instructions, the first of which makes value `first`, where the bytes may end inside one.
 fn pass_last(s: &[u8], c: Cursor, first: usize, count: usize) -> Passed
     requires { ⌜ (c .at ≤ 2 ^ 20) × (first ≤ 528) × (count ≤ 512) ⌝ }
-    ensures { λ r. ⌜ PassedOver (now (s .entry)) (program count first) (35 * count) c r ⌝ }
+    ensures { λ r. ⌜ PassedOver (now (s .entry)) (program count first) (widest * count) c r ⌝ }
 {
     let mut at = c;
     let mut k = 0;
@@ -35,7 +35,7 @@ fn pass_last(s: &[u8], c: Cursor, first: usize, count: usize) -> Passed
 // The same from a header on: as long as eight bytes are there an instruction is read whole.
 pub(crate) fn pass_instructions(s: &[u8], c: Cursor, inputs: usize, count: usize) -> Passed
     requires { ⌜ (c .at ≤ 32) × (inputs ≤ 16) × (count ≤ 512) ⌝ }
-    ensures { λ r. ⌜ PassedOver (now (s .entry)) (program count inputs) (35 * count) c r ⌝ }
+    ensures { λ r. ⌜ PassedOver (now (s .entry)) (program count inputs) (widest * count) c r ⌝ }
 {
     let mut at = c;
     let mut k = 0;

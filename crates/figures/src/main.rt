@@ -1,4 +1,4 @@
-// Runs document 01's worked steps and prints what each answers, a line each.
+// Runs document 01's worked steps and request b's, and prints what each answers, a line each.
 use libc::STDOUT_FILENO;
 use refusals::Refusal;
 use refusals::number_of;
@@ -187,6 +187,64 @@ fn static_products() {
     );
 }
 
+// At scale 4 a tenth is 1.6 units: 2 with a margin of 1. An exact 2 beside it forgets what that rounding lost.
+fn tenths() {
+    say_ball(
+        b"F 4: the coefficient (2,1) is ",
+        balls::steps::coefficient(2, 1),
+    );
+    let tenth = Ball {
+        centre: 2,
+        margin: 1,
+    };
+    let exact = Ball {
+        centre: 2,
+        margin: 0,
+    };
+    let reading = Ball {
+        centre: 80,
+        margin: 0,
+    };
+    say_ball(
+        b"F 4: (2,1) times (80,0) is ",
+        balls::steps::multiply(4, tenth, reading),
+    );
+    say_ball(
+        b"F 4: (2,0) times (80,0) is ",
+        balls::steps::multiply(4, exact, reading),
+    );
+}
+
+fn static_tenths() {
+    say_matryoshka(
+        b"F 4: the static coefficient (2,1) is ",
+        matryoshki::steps::coefficient(2, 1),
+    );
+    let tenth = Matryoshka {
+        middle: 2,
+        stray: 0,
+        margin: 1,
+    };
+    let exact = Matryoshka {
+        middle: 2,
+        stray: 0,
+        margin: 0,
+    };
+    let reading = Matryoshka {
+        middle: 80,
+        stray: 16,
+        margin: 0,
+    };
+    say_matryoshka(
+        b"F 4: (2,0,1) times (80,16,0) is ",
+        matryoshki::steps::multiply(4, tenth, reading),
+    );
+    say_matryoshka(
+        b"F 4: (2,0,0) times (80,16,0) is ",
+        matryoshki::steps::multiply(4, exact, reading),
+    );
+}
+
 fn bare_limits() {
     say_plain(b"M plus -1 is ", plain::steps::add(2147483647, -1));
     say_plain(b"M plus 1 is ", plain::steps::add(2147483647, 1));
@@ -197,5 +255,7 @@ fn main() {
     small_products();
     whole_units();
     static_products();
+    tenths();
+    static_tenths();
     bare_limits();
 }

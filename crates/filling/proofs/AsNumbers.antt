@@ -1,15 +1,16 @@
 -- An instruction as three numbers: its operands fit, and the three are what would be handed over. Assumes nothing.
 use mathlib.Core.Path.{_≡_, sym, _∙_, ap, ap₂, subst}
 use mathlib.Core.Logic.{_⊎_, inl, inr}
-use Prim.Native.Nat.{ℕ, _<_}
+use Prim.Native.Nat.{ℕ, _≤_, _<_}
 use native.Mathlib.Omega.{arith}
 use lib.IntN.{ℤ, pos}
 use mir.Syntax.{w64}
 use mir.Val.{SFits}
 use Rattle.whole.proofs.Machine.{back, back-is, fits-size}
+use Rattle.rules.specs.Numbers.{M}
 use Rattle.rules.specs.Values.{Allowed}
 use Rattle.formulas.specs.declared.Instruction.{Instruction}
-use Rattle.formulas.specs.declared.Instruction.the-variants.{Constant, Negate, Add, Subtract, Multiply}
+use Rattle.formulas.specs.declared.Instruction.the-variants.{Constant, Negate, Add, Subtract, Multiply, Coefficient}
 use Rattle.formulas.specs.Formula.{Smaller}
 use Rattle.packing.specs.Raw.{raw, raw-of}
 
@@ -19,31 +20,33 @@ allowed-back z l = back-is z (omega arith)
 operand-back : (a : ℕ) → a < 1024 → back (pos a) ≡ pos a
 operand-back a l = back-is (pos a) (omega arith)
 
--- an operand, the first or the second
+-- a field from 0 on: an operand, the first or the second, or a margin
 abbrev Names : Instruction → ℕ → Type 0
 Names (Constant c) a = ⊥
 Names (Negate i) a = a ≡ i
 Names (Add i j) a = (a ≡ i) ⊎ (a ≡ j)
 Names (Subtract i j) a = (a ≡ i) ⊎ (a ≡ j)
 Names (Multiply i j) a = (a ≡ i) ⊎ (a ≡ j)
+Names (Coefficient c r) a = a ≡ r
 
-either : {a i j n : ℕ} → (i < n) × (j < n) → (a ≡ i) ⊎ (a ≡ j) → a < n
+either : {a i j : ℕ} → (i < 1024) × (j < 1024) → (a ≡ i) ⊎ (a ≡ j) → a ≤ M
 either p (inl e) = omega arith
 either p (inr e) = omega arith
 
-names-small : (j : Instruction) (a : ℕ) → Smaller 1024 j → Names j a → a < 1024
+names-small : (j : Instruction) (a : ℕ) → Smaller 1024 j → Names j a → a ≤ M
 names-small (Constant c) a p n = absurd n
 names-small (Negate i) a p n = omega arith
 names-small (Add i j) a p n = either p n
 names-small (Subtract i j) a p n = either p n
 names-small (Multiply i j) a p n = either p n
+names-small (Coefficient c r) a p n = omega arith
 
-pub operand-fits : {i j : Instruction} {a : ℕ} → Smaller 1024 i → i ≡ j → Names j a → SFits w64 (pos a)
-operand-fits {j = j} {a = a} p e n =
+pub natural-fits : {i j : Instruction} {a : ℕ} → Smaller 1024 i → i ≡ j → Names j a → SFits w64 (pos a)
+natural-fits {j = j} {a = a} p e n =
     let l = names-small j a (subst (Smaller 1024) e p) n in
     fits-size (omega (arith, l))
 
-pub ruleset operands = (operand-fits, inl, inr)
+pub ruleset naturals = (natural-fits, inl, inr)
 
 -- ---- as the code makes them
 
@@ -68,3 +71,8 @@ module _ {i : Instruction} (p : Smaller 1024 i) where
 
   pub made-multiply : {a b : ℕ} → i ≡ Multiply a b → raw (pos 4) (back (pos a)) (back (pos b)) ≡ raw-of i
   made-multiply e = two-back (pos 4) (known e) ∙ ap raw-of (sym e)
+
+  pub made-coefficient : {c : ℤ} {r : ℕ} → i ≡ Coefficient c r → raw (pos 5) (back c) (back (pos r)) ≡ raw-of i
+  made-coefficient {c} {r} e =
+      let ball = known e in
+      ap₂ (raw (pos 5)) (allowed-back c (omega arith)) (allowed-back (pos r) (omega arith)) ∙ ap raw-of (sym e)

@@ -17,10 +17,10 @@ use Rattle.bits.specs.Reader.{Read}
 use Rattle.bits.specs.Fields.{before}
 use Rattle.formulas.specs.declared.Header.{Header}
 use Rattle.formulas.specs.declared.Instruction.{Instruction}
-use Rattle.formulas.specs.declared.Instruction.the-variants.{Constant, Negate, Add, Subtract, Multiply}
+use Rattle.formulas.specs.declared.Instruction.the-variants.{Constant, Negate, Add, Subtract, Multiply, Coefficient}
 use Rattle.formulas.specs.Formula.{Smaller, places}
 use Rattle.packed.specs.Items.{read}
-use Rattle.packed.specs.Format.{program, results, several, wide, all-wide}
+use Rattle.packed.specs.Format.{program, results, several, wide, all-wide, widest}
 use Rattle.packed.specs.Meaning.{meant, checked}
 use Rattle.packed.specs.declared.loaded.Loaded.{Loaded}
 use Rattle.packed.specs.Loading.{place-of, Loads}
@@ -39,7 +39,7 @@ pub record Turn (s : List ℕ) (h : Header) (c : Cursor) (k : ℕ) : Type 0 wher
   pub rest : Program s c (h .instructions - k) (h .inputs + k)
   pub are : rest .all .got ≡ drop k (meant s .program)
   pub last : rest .all .left ≡ there .instructions .left
-  pub near : c .at ≤ 32 + 35 * k
+  pub near : c .at ≤ 32 + widest * k
   pub stands : c .at + all-wide (rest .all .got) ≡ 32 + all-wide (meant s .program)
 
 -- the same instructions, with their number and the first value's number written another way
@@ -73,6 +73,7 @@ smaller-below (Negate a) l p = omega arith
 smaller-below (Add a b) l p = (omega arith, omega arith)
 smaller-below (Subtract a b) l p = (omega arith, omega arith)
 smaller-below (Multiply a b) l p = (omega arith, omega arith)
+smaller-below (Coefficient c r) l p = p
 
 heads : {A : Type 0} {a b : A} {xs ys : List A} → _≡_ {A = List A} (a ∷ xs) (b ∷ ys) → (a ≡ b) × (xs ≡ ys)
 heads e = (cc, cc)

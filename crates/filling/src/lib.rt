@@ -52,6 +52,11 @@ fn numbers_of(i: Instruction) -> Numbers
             first: a as i64,
             second: b as i64,
         },
+        Instruction::Coefficient(c, r) => Numbers {
+            code: 5,
+            first: c,
+            second: r as i64,
+        },
     }
 }
 

@@ -1,29 +1,31 @@
 -- A test of a signed number, in the code's shape. Assumes nothing.
-use mathlib.Core.Path.{_≡_, refl, sym, _∙_, ap, subst}
+use mathlib.Core.Path.{_≡_, refl, sym, _∙_, ap, ap₂, subst}
 use mathlib.Core.Bool.{Bool, true, false, cond, not, _&&_}
 use mathlib.Core.List.{List, [], _∷_}
-use Prim.Native.Nat.{ℕ, zero, suc, _<_, _≤_}
+use Prim.Native.Nat.{ℕ, zero, suc, _+_, _-_, _<_, _≤_}
 use native.Mathlib.Omega.{arith}
-use borrow.Author.Tests.{ltb-true, le-leb, lt-leb, not-true, not-false}
-use lib.Dec.{ltb, leb·zero}
+use borrow.Author.Tests.{ltb-true, ltb-false, leb-true, leb-false, le-leb, lt-leb, not-true, not-false}
+use lib.Dec.{leb, ltb, leb·zero}
 use lib.IntN.{ℤ, pos, negsuc, natAbs}
 use lib.Signed.{ltZ}
 use mir.Syntax.{w64}
 use mir.Val.{SFits}
 use mir.ValLaws.{toZ-ofZ}
-use Rattle.whole.proofs.Cases.{never}
+use Rattle.whole.proofs.Cases.{never, both}
 use Rattle.whole.proofs.Machine.{back}
 use Rattle.refusals.specs.declared.Refusal.{Refusal}
 use Rattle.refusals.specs.declared.Refusal.the-variants as refusal
 use Rattle.refusals.specs.Answer.{value, refuse, then}
 use Rattle.rules.specs.Numbers.{M}
-use Rattle.packed.specs.Items.{FieldKind, code, constant, operand, complaint}
+use Rattle.packed.specs.Items.{FieldKind, code, constant, operand, centre, margin, complaint}
+use Rattle.packed.proofs.FieldIn.{between}
 use Rattle.packed.proofs.WellFormed.{in-range}
 use Rattle.packing.specs.Raw.{raw}
-use Rattle.packing.specs.Slots.{Slot, slot, argument-slots, instruction-slots, slots-width}
+use Rattle.packing.specs.Slots.{Slot, encoded, slot, argument-slots, instruction-slots, slots-width}
 use Rattle.packing.specs.Packing.{fits, slots-tested}
+use Rattle.packing.proofs.Formats.{twos-complement-encoded}
 use Rattle.fitting.specs.declared.Size.the-variants.{Bits, Refused}
-use Rattle.fitting.specs.Sizes.{is-below, Sizes}
+use Rattle.fitting.specs.Sizes.{is-below, coefficient-fits, Sizes}
 
 pub negative-out : (limit : ℕ) (z : ℤ) → SFits w64 z → ltZ (back z) (pos 0) ≡ true → false ≡ is-below limit z
 negative-out limit z f e = by-sign z (subst (λ (x : ℤ). ltZ x (pos 0) ≡ true) (toZ-ofZ w64 z f) e)
@@ -41,13 +43,60 @@ natural-below limit z {n} f e k =
     by-sign (pos n) e k = ap (λ (i : ℕ). ltb i limit) k ∙ sym (ap (λ (t : Bool). t && ltb n limit) (leb·zero n))
     by-sign (negsuc n) e k = never e
 
+and-false : (t : Bool) → t && false ≡ false
+and-false true = refl
+and-false false = refl
+
+-- a sum within M, as a part within what the other leaves
+shifted : (n r : ℕ) → n ≤ M → leb (n + r) M ≡ leb r (M - n)
+shifted n r l = by-test (leb (n + r) M) refl
+  where
+    by-test : (t : Bool) → leb (n + r) M ≡ t → t ≡ leb r (M - n)
+    by-test true e = let a = leb-true (n + r) M e in sym (le-leb r (M - n) (omega arith))
+    by-test false e = let a = leb-false (n + r) M e in sym (lt-leb r (M - n) (omega arith))
+
+-- ---- a centre and its margin
+
+module _ (c r : ℤ) (fc : SFits w64 c) (fr : SFits w64 r) where
+  pub negative-margin : ltZ (back r) (pos 0) ≡ true → false ≡ coefficient-fits c r
+  negative-margin e = by-sign r (subst (λ (x : ℤ). ltZ x (pos 0) ≡ true) (toZ-ofZ w64 r fr) e)
+    where
+      by-sign : (r : ℤ) → ltZ r (pos 0) ≡ true → false ≡ coefficient-fits c r
+      by-sign (pos n) e = absurd (let l = ltb-true n 0 e in omega arith)
+      by-sign (negsuc n) e = sym (and-false (fits centre c))
+
+  module _ {n : ℕ} (size-is : n ≡ natAbs (back c)) where
+    pub centre-over : M < n → false ≡ coefficient-fits c r
+    centre-over l =
+        sym (ap (λ (t : Bool). t && fits (margin (encoded c)) r)
+        (lt-leb (natAbs c) M (subst (λ (m : ℕ). M < m) (size-is ∙ ap natAbs (toZ-ofZ w64 c fc)) l)))
+
+    pub reach-asked : {k : ℕ} → ltZ (back r) (pos 0) ≡ false → n ≤ M → k ≡ natAbs (back r) → leb k (M - n) ≡ coefficient-fits c r
+    reach-asked {k} e l kr =
+        by-sign r (subst (λ (x : ℤ). ltZ x (pos 0) ≡ false) (toZ-ofZ w64 r fr) e) (kr ∙ ap natAbs (toZ-ofZ w64 r fr))
+      where
+        size : n ≡ natAbs c
+        size = size-is ∙ ap natAbs (toZ-ofZ w64 c fc)
+
+        allowed : natAbs c ≤ M
+        allowed = subst (λ (m : ℕ). m ≤ M) size l
+
+        by-sign : (r : ℤ) → ltZ r (pos 0) ≡ false → k ≡ natAbs r → leb k (M - n) ≡ coefficient-fits c r
+        by-sign (pos r) e kr =
+            ap₂ (λ (i m : ℕ). leb i (M - m)) kr size
+            ∙ sym
+            (ap (λ (t : Bool). t && fits (margin (encoded c)) (pos r)) (le-leb (natAbs c) M allowed)
+            ∙ ap (λ (z : ℤ). leb (natAbs z + r) M) (twos-complement-encoded c allowed)
+            ∙ shifted (natAbs c) r allowed)
+        by-sign (negsuc r) e kr = never e
+
 -- ---- an instruction's fields, one test after another
 
 pub fits-operand : (v : ℕ) (z : ℤ) → fits (operand v) z ≡ is-below v z
 fits-operand v (pos n) = refl
 fits-operand v (negsuc n) = refl
 
-pub fits-code : (z : ℤ) → fits code z ≡ is-below 5 z
+pub fits-code : (z : ℤ) → fits code z ≡ is-below 6 z
 fits-code (pos n) = refl
 fits-code (negsuc n) = refl
 
@@ -64,11 +113,17 @@ pub data Code : ℤ → Type 0 where
   none-named : Code (pos 0)
   one-named : Code (pos 1)
   two-named : {n : ℕ} → 2 ≤ n → n < 5 → Code (pos n)
+  with-margin : Code (pos 5)
 
-pub code-of : (c : ℤ) → is-below 5 c ≡ true → Code c
+pub code-of : (c : ℤ) → is-below 6 c ≡ true → Code c
 code-of (pos zero) e = none-named
 code-of (pos (suc zero)) e = one-named
-code-of (pos (suc (suc n))) e = two-named {n = suc (suc n)} (omega arith) (in-range 0 5 (suc (suc n)) e .1)
+code-of (pos (suc (suc zero))) e = two-named {n = 2} (omega arith) (omega arith)
+code-of (pos (suc (suc (suc zero)))) e = two-named {n = 3} (omega arith) (omega arith)
+code-of (pos (suc (suc (suc (suc zero))))) e = two-named {n = 4} (omega arith) (omega arith)
+code-of (pos (suc (suc (suc (suc (suc zero)))))) e = with-margin
+code-of (pos (suc (suc (suc (suc (suc (suc n))))))) e =
+    absurd (let l = in-range 0 6 (suc (suc (suc (suc (suc (suc n)))))) e .1 in omega arith)
 code-of (negsuc n) e = never (sym e)
 
 pub two-arguments : (v n : ℕ) (a b : ℤ) → 2 ≤ n → n < 5
@@ -94,22 +149,77 @@ asked limit {z} f e k = ap (is-below limit) (sym (toZ-ofZ w64 z f)) ∙ sym e �
 sized-as : {z : ℤ} {n k : ℕ} → SFits w64 z → n ≡ natAbs (back z) → n ≡ k → natAbs z ≡ k
 sized-as {z} f e l = ap natAbs (sym (toZ-ofZ w64 z f)) ∙ sym e ∙ l
 
+-- a code below 5 is below 6, and is not 5
+pub below-more : (c : ℤ) → is-below 5 c ≡ true → is-below 6 c ≡ true
+below-more (pos n) e = let l = in-range 0 5 n e .1 in between 0 6 n (omega arith) (omega arith)
+below-more (negsuc n) e = never (sym e)
+
+below-not-five : (c : ℤ) → is-below 5 c ≡ true → natAbs c ≡ 5 → ⊥
+below-not-five (pos n) e z = let l = in-range 0 5 n e .1 in omega arith
+below-not-five (negsuc n) e z = never (sym e)
+
+-- the only code below 6 and not below 5
+is-five : (c : ℤ) → is-below 5 c ≡ false → is-below 6 c ≡ true → c ≡ pos 5
+is-five (pos n) e f = ap pos (by-test (ltb n 5) refl)
+  where
+    by-test : (t : Bool) → ltb n 5 ≡ t → n ≡ 5
+    by-test true u = never (sym (between 0 5 n (omega arith) (ltb-true n 5 u)) ∙ e)
+    by-test false u = let l = in-range 0 6 n f .1 in let m = ltb-false n 5 u in omega arith
+is-five (negsuc n) e f = never (sym f)
+
 module _ (v : ℕ) (c a b : ℤ) (fc : SFits w64 c) {t : Bool} (tested-code : t ≡ is-below 5 (back c)) where
-  pub no-code : not t ≡ true → Sizes (instruction-slots v (raw c a b)) (Refused refusal.Code)
-  no-code e =
-      one-unfit
-      (tested-unfit code c (argument-slots v c a b) (fits-code c ∙ asked 5 fc tested-code (not-true t e)))
+  -- 5, or no code
+  module _ {w : Bool} (tested-again : w ≡ is-below 6 (back c)) where
+    pub no-code : not w ≡ true → Sizes (instruction-slots v (raw c a b)) (Refused refusal.Code)
+    no-code e =
+        one-unfit
+        (tested-unfit code c (argument-slots v c a b) (fits-code c ∙ asked 6 fc tested-again (not-true w e)))
+
+    module _ (beyond : not t ≡ true) (known : not w ≡ false) (fa : SFits w64 a) (fb : SFits w64 b) {u : Bool} (reach-is : u ≡ coefficient-fits (back a) (back b)) where
+      asked-reach : {x : Bool} → u ≡ x → coefficient-fits a b ≡ x
+      asked-reach e = ap₂ coefficient-fits (sym (toZ-ofZ w64 a fa)) (sym (toZ-ofZ w64 b fb)) ∙ sym reach-is ∙ e
+
+      five : c ≡ pos 5
+      five = is-five c (asked 5 fc tested-code (not-true t beyond)) (asked 6 fc tested-again (not-false w known))
+
+      pub coefficient-sized : u ≡ true → Sizes (instruction-slots v (raw c a b)) (Bits 66)
+      coefficient-sized e =
+          let fit = both (fits centre a) (fits (margin (encoded a)) b) (asked-reach e) in
+          subst (λ (z : ℤ). Sizes (instruction-slots v (raw z a b)) (Bits 66)) (sym five)
+          (all-fit
+          (tested-fit code (pos 5) (argument-slots v (pos 5) a b) refl
+          ∙ tested-fit centre a (slot (margin (encoded a)) b ∷ []) (fit .0)
+          ∙ tested-fit (margin (encoded a)) b [] (fit .1))
+          refl)
+
+      pub coefficient-unfit : u ≡ false → Sizes (instruction-slots v (raw c a b)) (Refused refusal.Constant)
+      coefficient-unfit e =
+          subst (λ (z : ℤ). Sizes (instruction-slots v (raw z a b)) (Refused refusal.Constant)) (sym five)
+          (one-unfit
+          (tested-fit code (pos 5) (argument-slots v (pos 5) a b) refl ∙ by-test (fits centre a) refl (asked-reach e)))
+        where
+          by-test : (x : Bool) → fits centre a ≡ x → x && fits (margin (encoded a)) b ≡ false
+              → slots-tested (argument-slots v (pos 5) a b) ≡ refuse refusal.Constant
+          by-test true f g =
+              tested-fit centre a (slot (margin (encoded a)) b ∷ []) f ∙ tested-unfit (margin (encoded a)) b [] g
+          by-test false f g = tested-unfit centre a (slot (margin (encoded a)) b ∷ []) f
 
   module _ (passed : not t ≡ false) (fa : SFits w64 a) {n : ℕ} (size-is : n ≡ natAbs (back c)) where
     below-five : is-below 5 c ≡ true
     below-five = asked 5 fc tested-code (not-false t passed)
 
+    below-six : is-below 6 c ≡ true
+    below-six = below-more c below-five
+
+    not-five : natAbs c ≡ 5 → ⊥
+    not-five = below-not-five c below-five
+
     past-code : slots-tested (instruction-slots v (raw c a b)) ≡ slots-tested (argument-slots v c a b)
-    past-code = tested-fit code c (argument-slots v c a b) (fits-code c ∙ below-five)
+    past-code = tested-fit code c (argument-slots v c a b) (fits-code c ∙ below-six)
 
     module _ (zeroth : n ≡ 0) {k : ℕ} (first-is : k ≡ natAbs (back a)) where
       pub constant-fits : k ≤ M → Sizes (instruction-slots v (raw c a b)) (Bits 35)
-      constant-fits l = by-code (code-of c below-five) (sized-as fc size-is zeroth) past-code
+      constant-fits l = by-code (code-of c below-six) (sized-as fc size-is zeroth) past-code
         where
           fit : fits constant a ≡ true
           fit = le-leb (natAbs a) M (subst (λ (n : ℕ). n ≤ M) (sym (sized-as fa first-is refl)) l)
@@ -120,9 +230,10 @@ module _ (v : ℕ) (c a b : ℤ) (fc : SFits w64 c) {t : Bool} (tested-code : t 
           by-code none-named z e = all-fit (e ∙ tested-fit constant a [] fit) refl
           by-code one-named z e = absurd (omega arith)
           by-code (two-named h k) z e = absurd (omega arith)
+          by-code with-margin z e = absurd (omega arith)
 
       pub constant-unfit : M < k → Sizes (instruction-slots v (raw c a b)) (Refused refusal.Constant)
-      constant-unfit l = by-code (code-of c below-five) (sized-as fc size-is zeroth) past-code
+      constant-unfit l = by-code (code-of c below-six) (sized-as fc size-is zeroth) past-code
         where
           unfit : fits constant a ≡ false
           unfit = lt-leb (natAbs a) M (subst (λ (n : ℕ). M < n) (sym (sized-as fa first-is refl)) l)
@@ -133,23 +244,25 @@ module _ (v : ℕ) (c a b : ℤ) (fc : SFits w64 c) {t : Bool} (tested-code : t 
           by-code none-named z e = one-unfit (e ∙ tested-unfit constant a [] unfit)
           by-code one-named z e = absurd (omega arith)
           by-code (two-named h k) z e = absurd (omega arith)
+          by-code with-margin z e = absurd (omega arith)
 
     module _ (some : n ≡ 0 → ⊥) {u : Bool} (tested-first : u ≡ is-below v (back a)) where
       not-zero : natAbs c ≡ 0 → ⊥
       not-zero z = some (sym (sized-as fc size-is refl) ∙ z)
 
       pub first-unfit : not u ≡ true → Sizes (instruction-slots v (raw c a b)) (Refused refusal.Operand)
-      first-unfit e = by-code (code-of c below-five) not-zero past-code
+      first-unfit e = by-code (code-of c below-six) not-zero not-five past-code
         where
           unfit : fits (operand v) a ≡ false
           unfit = fits-operand v a ∙ asked v fa tested-first (not-true u e)
 
-          by-code : {c : ℤ} → Code c → (natAbs c ≡ 0 → ⊥)
+          by-code : {c : ℤ} → Code c → (natAbs c ≡ 0 → ⊥) → (natAbs c ≡ 5 → ⊥)
               → slots-tested (instruction-slots v (raw c a b)) ≡ slots-tested (argument-slots v c a b)
               → Sizes (instruction-slots v (raw c a b)) (Refused refusal.Operand)
-          by-code none-named z e = absurd (z refl)
-          by-code one-named z e = one-unfit (e ∙ tested-unfit (operand v) a [] unfit)
-          by-code (two-named {n} h k) z e =
+          by-code none-named z o e = absurd (z refl)
+          by-code with-margin z o e = absurd (o refl)
+          by-code one-named z o e = one-unfit (e ∙ tested-unfit (operand v) a [] unfit)
+          by-code (two-named {n} h k) z o e =
               one-unfit (e ∙ ap slots-tested (two-arguments v n a b h k) ∙ tested-unfit (operand v) a (slot (operand v) b ∷ []) unfit)
 
       module _ (first-fits : not u ≡ false) where
@@ -157,7 +270,7 @@ module _ (v : ℕ) (c a b : ℤ) (fc : SFits w64 c) {t : Bool} (tested-code : t 
         fit = fits-operand v a ∙ asked v fa tested-first (not-false u first-fits)
 
         pub one-fits : n ≡ 1 → Sizes (instruction-slots v (raw c a b)) (Bits 13)
-        one-fits o = by-code (code-of c below-five) (sized-as fc size-is o) past-code
+        one-fits o = by-code (code-of c below-six) (sized-as fc size-is o) past-code
           where
             by-code : {c : ℤ} → Code c → natAbs c ≡ 1
                 → slots-tested (instruction-slots v (raw c a b)) ≡ slots-tested (argument-slots v c a b)
@@ -165,6 +278,7 @@ module _ (v : ℕ) (c a b : ℤ) (fc : SFits w64 c) {t : Bool} (tested-code : t 
             by-code none-named z e = absurd (omega arith)
             by-code one-named z e = all-fit (e ∙ tested-fit (operand v) a [] fit) refl
             by-code (two-named h k) z e = absurd (omega arith)
+            by-code with-margin z e = absurd (omega arith)
 
         module _ (more : n ≡ 1 → ⊥) (fb : SFits w64 b) {w : Bool} (tested-second : w ≡ is-below v (back b)) where
           not-one : natAbs c ≡ 1 → ⊥
@@ -175,14 +289,15 @@ module _ (v : ℕ) (c a b : ℤ) (fc : SFits w64 c) {t : Bool} (tested-code : t 
           two-slots n h k = ap (λ ss. slot code (pos n) ∷ ss) (two-arguments v n a b h k)
 
           pub two-fit : w ≡ true → Sizes (instruction-slots v (raw c a b)) (Bits 23)
-          two-fit e = by-code (code-of c below-five) not-zero not-one past-code
+          two-fit e = by-code (code-of c below-six) not-zero not-one not-five past-code
             where
-              by-code : {c : ℤ} → Code c → (natAbs c ≡ 0 → ⊥) → (natAbs c ≡ 1 → ⊥)
+              by-code : {c : ℤ} → Code c → (natAbs c ≡ 0 → ⊥) → (natAbs c ≡ 1 → ⊥) → (natAbs c ≡ 5 → ⊥)
                   → slots-tested (instruction-slots v (raw c a b)) ≡ slots-tested (argument-slots v c a b)
                   → Sizes (instruction-slots v (raw c a b)) (Bits 23)
-              by-code none-named z o p = absurd (z refl)
-              by-code one-named z o p = absurd (o refl)
-              by-code (two-named {n} h k) z o p =
+              by-code none-named z o q p = absurd (z refl)
+              by-code one-named z o q p = absurd (o refl)
+              by-code with-margin z o q p = absurd (q refl)
+              by-code (two-named {n} h k) z o q p =
                   all-fit
                   (p ∙ ap slots-tested (two-arguments v n a b h k)
                   ∙ tested-fit (operand v) a (slot (operand v) b ∷ []) fit
@@ -190,14 +305,15 @@ module _ (v : ℕ) (c a b : ℤ) (fc : SFits w64 c) {t : Bool} (tested-code : t 
                   (ap slots-width (two-slots n h k))
 
           pub second-unfit : w ≡ false → Sizes (instruction-slots v (raw c a b)) (Refused refusal.Operand)
-          second-unfit e = by-code (code-of c below-five) not-zero not-one past-code
+          second-unfit e = by-code (code-of c below-six) not-zero not-one not-five past-code
             where
-              by-code : {c : ℤ} → Code c → (natAbs c ≡ 0 → ⊥) → (natAbs c ≡ 1 → ⊥)
+              by-code : {c : ℤ} → Code c → (natAbs c ≡ 0 → ⊥) → (natAbs c ≡ 1 → ⊥) → (natAbs c ≡ 5 → ⊥)
                   → slots-tested (instruction-slots v (raw c a b)) ≡ slots-tested (argument-slots v c a b)
                   → Sizes (instruction-slots v (raw c a b)) (Refused refusal.Operand)
-              by-code none-named z o p = absurd (z refl)
-              by-code one-named z o p = absurd (o refl)
-              by-code (two-named {n} h k) z o p =
+              by-code none-named z o q p = absurd (z refl)
+              by-code one-named z o q p = absurd (o refl)
+              by-code with-margin z o q p = absurd (q refl)
+              by-code (two-named {n} h k) z o q p =
                   one-unfit
                   (p ∙ ap slots-tested (two-arguments v n a b h k)
                   ∙ tested-fit (operand v) a (slot (operand v) b ∷ []) fit

@@ -1,16 +1,15 @@
 -- What the tests answer: how many bits the fields take, or the first refusal.
 use mathlib.Core.Path.{_≡_}
-use mathlib.Core.Bool.{Bool, false, cond, _&&_}
+use mathlib.Core.Bool.{Bool, false, _&&_}
 use mathlib.Core.List.{List, _++_}
 use Prim.Native.Nat.{ℕ, _+_, _^_, _≤_}
-use lib.Dec.{eqb}
 use lib.IntN.{ℤ, pos, negsuc}
 use lib.ListN.{length}
 use Rattle.refusals.specs.Answer.{Answer, value, refuse, then}
-use Rattle.packed.specs.Items.{from-below}
-use Rattle.packing.specs.Raw.{RawInstruction, RawFormula, instructions-of}
-use Rattle.packing.specs.Slots.{Slot, program-slots, result-slots, raw-slots, slots-width}
-use Rattle.packing.specs.Packing.{slots-tested}
+use Rattle.packed.specs.Items.{from-below, centre, margin}
+use Rattle.packing.specs.Raw.{RawInstruction, RawFormula, number-of, same-lengths, instructions-of}
+use Rattle.packing.specs.Slots.{Slot, encoded, program-slots, result-slots, raw-slots, slots-width}
+use Rattle.packing.specs.Packing.{fits, slots-tested}
 use Rattle.fitting.specs.declared.Size.{Size}
 use Rattle.fitting.specs.declared.Size.the-variants.{Bits, Refused}
 
@@ -18,9 +17,13 @@ abbrev pub is-below : ℕ → ℤ → Bool
 is-below limit (pos n) = from-below 0 limit n
 is-below limit (negsuc n) = false
 
--- l; lists of different lengths name no number of instructions
+-- a centre and its margin are both fit
+abbrev pub coefficient-fits : ℤ → ℤ → Bool
+coefficient-fits c r = fits centre c && fits (margin (encoded c)) r
+
+-- l, of lists of these lengths
 abbrev pub counted : ℕ → ℕ → ℕ → ℤ
-counted codes firsts seconds = cond (eqb codes firsts && eqb codes seconds) (pos codes) (negsuc 0)
+counted codes firsts seconds = number-of (same-lengths codes firsts seconds) codes
 
 abbrev pub size-answer : Size → Answer ℕ
 size-answer (Bits n) = value n

@@ -4,7 +4,8 @@ ghost use Prim.Native.Nat.{_≤_};
 ghost use lib.ListN.{length};
 ghost use Rattle.packing.specs.Raw.{raw, parts, handed, instructions-of};
 ghost use Rattle.packing.specs.Slots.{header-slots, instruction-slots, program-slots, result-slots};
-ghost use Rattle.fitting.specs.Sizes.{is-below, counted, Sizes, Counts, BodySizes, FormulaSizes};
+ghost use Rattle.fitting.specs.Sizes.{is-below, coefficient-fits, counted};
+ghost use Rattle.fitting.specs.Sizes.{Sizes, Counts, BodySizes, FormulaSizes};
 use refusals::Refusal;
 use whole::magnitude;
 
@@ -23,12 +24,32 @@ fn below(z: i64, limit: u64) -> bool
     magnitude(z) < limit
 }
 
+// Whether a centre and its margin reach at most M.
+fn reaches(centre: i64, margin: i64) -> bool
+    ensures { λ t. ⌜ t ≡ coefficient-fits centre margin ⌝ }
+{
+    if margin < 0 {
+        return false;
+    }
+    let size = magnitude(centre);
+    if 0x7FFF_FFFF < size {
+        return false;
+    }
+    magnitude(margin) <= 0x7FFF_FFFF - size
+}
+
 // An instruction that makes value `value`.
 fn instruction_size(code: i64, first: i64, second: i64, value: usize) -> Size
     ensures { λ r. ⌜ Sizes (instruction-slots value (raw code first second)) r ⌝ }
 {
     if !below(code, 5) {
-        return Size::Refused(Refusal::Code);
+        if !below(code, 6) {
+            return Size::Refused(Refusal::Code);
+        }
+        if reaches(first, second) {
+            return Size::Bits(66);
+        }
+        return Size::Refused(Refusal::Constant);
     }
     let c = magnitude(code);
     if c == 0 {

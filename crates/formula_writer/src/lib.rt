@@ -59,6 +59,16 @@ fn put_header(
     w.put(out, 32, n)
 }
 
+// A constant with a margin: its code, its centre and its margin, each a number of its own.
+fn put_coefficient(centre: i64, margin: i64, w: Writer, out: &mut [u8]) -> Writer
+    requires { ⌜ InstructionPuttable (raw (pos 5) centre margin) w (now out) ⌝ }
+    ensures { λ r. ⌜ PutsInstruction (raw (pos 5) centre margin) w (now (out .entry)) (now (out .exit)) r ⌝ }
+{
+    let coded = w.put(out, 3, 5);
+    let centred = coded.put(out, 32, word(centre));
+    centred.put(out, 31, natural(margin))
+}
+
 // Operands go with their code as one number; a constant has a word of its own.
 fn put_instruction(code: i64, first: i64, second: i64, w: Writer, out: &mut [u8]) -> Writer
     requires { ⌜ InstructionPuttable (raw code first second) w (now out) ⌝ }
@@ -68,6 +78,9 @@ fn put_instruction(code: i64, first: i64, second: i64, w: Writer, out: &mut [u8]
     if c == 0 {
         let coded = w.put(out, 3, 0);
         return coded.put(out, 32, word(first));
+    }
+    if c == 5 {
+        return put_coefficient(first, second, w, out);
     }
     let a = natural(first);
     if c == 1 {

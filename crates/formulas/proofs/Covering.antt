@@ -16,7 +16,7 @@ use Rattle.rules.specs.Lists.{centres-of, no-ball}
 use Rattle.rules.specs.Matryoshki.{matryoshka-rule}
 use Rattle.rules.proofs.Cover.{matryoshka-covers}
 use Rattle.formulas.specs.declared.Instruction.{Instruction}
-use Rattle.formulas.specs.declared.Instruction.the-variants.{Constant, Negate, Add, Subtract, Multiply}
+use Rattle.formulas.specs.declared.Instruction.the-variants.{Constant, Negate, Add, Subtract, Multiply, Coefficient}
 use Rattle.formulas.specs.Formula.{Smaller}
 use Rattle.lists.specs.Each.{Each, none, one}
 use Rattle.formulas.specs.Run.{finished, with-values, onward, run}
@@ -36,6 +36,7 @@ with-centres bs (Negate i) = ap Operation.negate (centre-at bs i)
 with-centres bs (Add i j) = ap₂ Operation.add (centre-at bs i) (centre-at bs j)
 with-centres bs (Subtract i j) = ap₂ Operation.subtract (centre-at bs i) (centre-at bs j)
 with-centres bs (Multiply i j) = ap₂ Operation.multiply (centre-at bs i) (centre-at bs j)
+with-centres bs (Coefficient c r) = refl
 
 centres-behind : (bs : List Ball) (b : Ball) → centres-of (bs ++ b ∷ []) ≡ centres-of bs ++ b .centre ∷ []
 centres-behind [] b = refl

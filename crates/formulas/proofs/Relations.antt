@@ -1,9 +1,9 @@
 -- An instruction on two lists of values that are related one by one. Assumes nothing.
 use mathlib.Core.List.{List}
 use lib.ListN.{length}
-use Rattle.rules.specs.Operation.{Alike, constants, negations, sums, differences, products}
+use Rattle.rules.specs.Operation.{Alike, constants, negations, sums, differences, products, coefficients}
 use Rattle.formulas.specs.declared.Instruction.{Instruction}
-use Rattle.formulas.specs.declared.Instruction.the-variants.{Constant, Negate, Add, Subtract, Multiply}
+use Rattle.formulas.specs.declared.Instruction.the-variants.{Constant, Negate, Add, Subtract, Multiply, Coefficient}
 use Rattle.formulas.specs.Formula.{Smaller}
 use Rattle.formulas.specs.Run.{with-values}
 use Rattle.lists.specs.Joined.{Rel}
@@ -17,3 +17,4 @@ module _ {A B : Type 0} {R : A → B → Type 0} where
   with-values-alike d e r (Add i j) s = sums (rel-at r i d e (s .0)) (rel-at r j d e (s .1))
   with-values-alike d e r (Subtract i j) s = differences (rel-at r i d e (s .0)) (rel-at r j d e (s .1))
   with-values-alike d e r (Multiply i j) s = products (rel-at r i d e (s .0)) (rel-at r j d e (s .1))
+  with-values-alike d e r (Coefficient c m) s = coefficients c m

@@ -5,10 +5,12 @@ use Prim.Native.Nat.{ℕ, _+_, _≤_, _<_}
 use lib.ListN.{length}
 use Rattle.lists.specs.Each.{Each}
 use Rattle.rules.specs.Numbers.{top-scale}
-use Rattle.rules.specs.Values.{Allowed}
+use Rattle.rules.specs.Values.{Allowed, IsBall}
+use Rattle.rules.specs.Balls.{ball}
 use Rattle.formulas.specs.declared.Header.{Header}
 use Rattle.formulas.specs.declared.Instruction.{Instruction}
-use Rattle.formulas.specs.declared.Instruction.the-variants.{Constant, Negate, Add, Subtract, Multiply}
+use Rattle.formulas.specs.declared.Instruction.the-variants.{Constant, Negate, Add}
+use Rattle.formulas.specs.declared.Instruction.the-variants.{Subtract, Multiply, Coefficient}
 
 pub record Formula : Type 0 where
   pub header : Header
@@ -27,13 +29,14 @@ pub record InLimits (h : Header) : Type 0 where
   pub some-output : 1 ≤ h .outputs
   pub outputs-few : h .outputs ≤ 16
 
--- an instruction that makes value v "may name only smaller values", and its constant is allowed
+-- an instruction that makes value v "may name only smaller values"; its constant is allowed, with its margin a ball
 abbrev pub Smaller : ℕ → Instruction → Type 0
 Smaller v (Constant c) = Allowed c
 Smaller v (Negate i) = i < v
 Smaller v (Add i j) = (i < v) × (j < v)
 Smaller v (Subtract i j) = (i < v) × (j < v)
 Smaller v (Multiply i j) = (i < v) × (j < v)
+Smaller v (Coefficient c r) = IsBall (ball c r)
 
 pub record WellFormed (f : Formula) : Type 0 where
   pub limits : InLimits (f .header)

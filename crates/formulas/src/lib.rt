@@ -15,4 +15,6 @@ pub enum Instruction {
     Add(usize, usize),
     Subtract(usize, usize),
     Multiply(usize, usize),
+    // A constant with a margin.
+    Coefficient(i64, u64),
 }

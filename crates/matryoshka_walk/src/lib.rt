@@ -58,6 +58,7 @@ fn step(
             value_at(middles, strays, margins, a, made),
             value_at(middles, strays, margins, b, made),
         ),
+        Instruction::Coefficient(c, r) => steps::coefficient(c, r),
     }
 }
 

@@ -84,3 +84,16 @@ pub fn multiply(scale: u32, x: Matryoshka, y: Matryoshka) -> MatryoshkaStep
         margin,
     })
 }
+
+pub fn coefficient(c: i64, r: u64) -> MatryoshkaStep
+    requires { ⌜ r < 2 ^ 63 ⌝ }
+    ensures { λ got. ⌜ AtEveryScale matryoshka-rule (Operation.coefficient c r) (matryoshka-answer got) ⌝ }
+{
+    // The same centre is computed for every reading, so all the doubt is margin.
+    let stray = 0;
+    keep(Matryoshka {
+        middle: c,
+        stray,
+        margin: r,
+    })
+}

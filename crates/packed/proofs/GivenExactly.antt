@@ -3,11 +3,13 @@ use mathlib.Core.Path.{_≡_, refl, sym, _∙_, ap, subst}
 use mathlib.Core.Bool.{Bool, true, false, _&&_, not}
 use mathlib.Core.List.{List}
 use mathlib.Core.Logic.{_⊎_, inl, inr}
-use Prim.Native.Nat.{ℕ, _^_, _≤_, _<_}
+use Prim.Native.Nat.{ℕ, _+_, _^_, _≤_, _<_}
 use native.Mathlib.Omega.{arith}
 use lib.Dec.{leb, ltb, eqb}
-use borrow.Author.Tests.{leb-true, leb-false, ltb-false, eqb-true, eq-eqb}
+use borrow.Author.Tests.{leb-true, leb-false, ltb-false, eqb-true, eq-eqb, lt-leb}
+use lib.IntN.{natAbs}
 use lib.ListN.{length, take}
+use Rattle.rules.specs.Numbers.{M}
 use Rattle.whole.proofs.Cases.{never}
 use Rattle.refusals.specs.Refusals.{refusal-number}
 use Rattle.refusals.specs.Said.{refuses}
@@ -17,8 +19,8 @@ use Rattle.bits.specs.Bits.{bits, number}
 use Rattle.bits.specs.Reader.{Read}
 use Rattle.bits.proofs.Digits.{bits-are}
 use Rattle.bits.proofs.Take.{field-got, field-ended}
-use Rattle.packed.specs.Items.{FieldKind, version, scale, inputs, instructions, outputs, code, constant, operand}
-use Rattle.packed.specs.Items.{width, permitted, complaint, from-below, entry, Form, done, ask, read}
+use Rattle.packed.specs.Items.{FieldKind, version, scale, inputs, instructions, outputs, code, constant, operand, centre, margin}
+use Rattle.packed.specs.Items.{twos-complement, width, permitted, complaint, from-below, entry, Form, done, ask, read}
 use Rattle.packed.specs.Format.{is-padding}
 use Rattle.formulas.specs.Formula.{Formula}
 use Rattle.formulas.specs.Kinds.{Kind}
@@ -28,7 +30,7 @@ use Rattle.formulas.proofs.Lawful.{Lawful}
 use Rattle.formulas.proofs.GivenInRuns.{Refusing, refused-given-in-run, job-last}
 use Rattle.packed.specs.Meaning.{whole, formula, checked}
 use Rattle.packed.specs.Given.{Comes, here, later, EndsInside, Wrong, HoldsWrong, Meets, BadlyPadded, Given, one}
-use Rattle.packed.specs.Given.{two, three, four, five, six, seven, eight}
+use Rattle.packed.specs.Given.{two, three, four, five, six, seven, seven-margin, eight}
 use Rattle.packed.proofs.PaddingGiven.{left-are, not-padding-false, false-not-padding}
 use Rattle.packed.proofs.FieldIn.{test-cut, test-failed, test-passed, below-out, above-out}
 
@@ -63,9 +65,11 @@ wrong-is scale n e = high (out-of 0 31 n e)
 wrong-is inputs n e = high (out-of 0 17 n e)
 wrong-is instructions n e = high (out-of 0 513 n e)
 wrong-is outputs n e = out-of 1 17 n e
-wrong-is code n e = high (out-of 0 5 n e)
+wrong-is code n e = high (out-of 0 6 n e)
 wrong-is constant n e = least (eqb n (2 ^ 31)) refl e
 wrong-is (operand v) n e = high (out-of 0 v n e)
+wrong-is centre n e = never e
+wrong-is (margin c) n e = leb-false (natAbs (twos-complement c) + n) M e
 
 other-than-one : (n : ℕ) → (n ≡ 1 → ⊥) → (n < 1) ⊎ (2 ≤ n)
 other-than-one n d = by-test (leb 1 n) refl
@@ -84,9 +88,11 @@ wrong-not-permitted scale n l = above-out 0 31 n l
 wrong-not-permitted inputs n l = above-out 0 17 n l
 wrong-not-permitted instructions n l = above-out 0 513 n l
 wrong-not-permitted outputs n l = either-out 1 17 n l
-wrong-not-permitted code n l = above-out 0 5 n l
+wrong-not-permitted code n l = above-out 0 6 n l
 wrong-not-permitted constant n e = ap not (eq-eqb n (2 ^ 31) e)
 wrong-not-permitted (operand v) n l = above-out 0 v n l
+wrong-not-permitted centre n l = absurd l
+wrong-not-permitted (margin c) n l = lt-leb (natAbs (twos-complement c) + n) M l
 
 -- ---- one field
 
@@ -175,6 +181,7 @@ module _ (s : List ℕ) where
   given-refused (five m) = meets-wrong code m
   given-refused (six v m) = meets-wrong (operand v) m
   given-refused (seven m) = meets-wrong constant m
+  given-refused (seven-margin c m) = meets-wrong (margin c) m
   given-refused (eight b) = badly-padded b
 
   met : {k : FieldKind} {P : FieldKind → List ℕ → Type 0} {cs : List ℕ} → Comes whole (bits s) k cs → P k cs → Meets s k P
@@ -189,6 +196,8 @@ module _ (s : List ℕ) where
   of-faulty (holds outputs c h) = four (inr (inr (met c h)))
   of-faulty (holds code c h) = five (met c h)
   of-faulty (holds constant c h) = seven (met c h)
+  of-faulty (holds centre c h) = absurd (h .1)
+  of-faulty (holds (margin n) c h) = seven-margin n (met c h)
   of-faulty (holds (operand v) c h) = six v (met c h)
 
   accepted : {x : Read Formula} → read whole (bits s) ≡ value x → is-padding (x .left) ≡ true
@@ -221,6 +230,7 @@ given-between (four m) = (omega arith, omega arith)
 given-between (five m) = (omega arith, omega arith)
 given-between (six v m) = (omega arith, omega arith)
 given-between (seven m) = (omega arith, omega arith)
+given-between (seven-margin c m) = (omega arith, omega arith)
 given-between (eight b) = (omega arith, omega arith)
 
 -- reading refuses by 1 to 8

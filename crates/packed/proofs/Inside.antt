@@ -15,15 +15,16 @@ use Rattle.refusals.specs.declared.Refusal.the-variants as refusal
 use Rattle.refusals.specs.Answer.{value, refused, refuse}
 use Rattle.bits.specs.declared.Cursor.{Cursor}
 use Rattle.formulas.specs.declared.Instruction.{Instruction}
-use Rattle.formulas.specs.declared.Instruction.the-variants.{Constant, Negate, Add, Subtract, Multiply}
+use Rattle.formulas.specs.declared.Instruction.the-variants.{Constant, Negate}
 use Rattle.packed.specs.declared.InstructionRead.{InstructionRead}
 use Rattle.packed.specs.declared.InstructionRead.the-variants.{Got, Refused}
 use Rattle.packed.specs.declared.loaded.Loaded.{Loaded}
 use Rattle.packed.specs.declared.loaded.Taken.{Taken}
-use Rattle.packed.specs.Items.{code, constant, operand, entry, read}
-use Rattle.packed.specs.Format.{twos-complement, two-operands, by-code, instruction, wide}
+use Rattle.packed.specs.Items.{code, constant, operand, twos-complement, entry, read}
+use Rattle.packed.specs.Format.{two-operands, by-code, instruction, wide}
 use Rattle.packed.specs.Loading.{place-of, left, taken, Carries, Loads}
-use Rattle.packed.specs.ReaderAnswers.{combined, Instructed, InstructedFrom, Reaches, Enough, CutShort}
+use Rattle.packed.specs.ReaderAnswers.{combined, Instructed, InstructedFrom, ReadFrom, Reaches, ZeroCode, Zeroth}
+use Rattle.packed.specs.ReaderAnswers.{Named, Operands, Beyond, CutShort}
 use Rattle.packed.specs.ReaderAnswers.{code-taken, constant-taken, first-taken, second-taken}
 use Rattle.packed.proofs.FieldIn.{above-out, between}
 use Rattle.packed.proofs.Instructions.{twos-complement-back, by-code-two}
@@ -53,28 +54,28 @@ pub constant-kept : {s : List ℕ} {l : Loaded} {z : ℤ} → Carries s l 57 →
 constant-kept c e = twos-complement-back _ (shr-lt 32 32 (past-code c .small)) e
 
 module _ (s : List ℕ) (v : ℕ) (l : Loaded) (carries : Carries s l 57) where
-  refuses : {r : Refusal} → read (instruction v) (left s l) ≡ refuse r → InstructedFrom s v l (Refused r)
+  pub refuses : {r : Refusal} → read (instruction v) (left s l) ≡ refuse r → InstructedFrom s v l (Refused r)
   refuses e = record { is = record { answers = sym e; past = tt } }
 
-  gives : {i : Instruction} (d : Loaded) {p : Cursor} → p ≡ place-of d → d .at ≡ l .at + wide i
+  pub gives : {i : Instruction} (d : Loaded) {p : Cursor} → p ≡ place-of d → d .at ≡ l .at + wide i
       → read (instruction v) (left s l) ≡ value (record { got = i; left = left s d }) → InstructedFrom s v l (Got i p)
   gives d q w e = rw q (record { is = record { answers = sym e; past = w } })
 
   -- ---- the code
 
   module _ (t : Reaches s (code-taken l .rest)) where
-    coded : code-taken l .field < 5 → read (instruction v) (left s l) ≡ read (by-code v (code-taken l .field)) (left s (code-taken l .rest))
+    pub coded : code-taken l .field < 6 → read (instruction v) (left s l) ≡ read (by-code v (code-taken l .field)) (left s (code-taken l .rest))
     unfolding instruction
-    coded m = rw (fine s l code (lit≤ tt) 54 carries (lit≤ tt) t (between 0 5 _ zero-le m))
+    coded m = rw (fine s l code (lit≤ tt) 54 carries (lit≤ tt) t (between 0 6 _ zero-le m))
 
-    coded-as : (n : ℕ) → n < 5 → code-taken l .field ≡ n
+    coded-as : (n : ℕ) → n < 6 → code-taken l .field ≡ n
         → read (instruction v) (left s l) ≡ read (by-code v n) (left s (code-taken l .rest))
     coded-as n m e = coded (omega arith) ∙ ap (λ m. read (by-code v m) (left s (code-taken l .rest))) e
 
     module _ (m : code-taken l .field < 5) (some : code-taken l .field ≡ 0 → ⊥) where
       two-coded : (code-taken l .field ≡ 1 → ⊥) → read (instruction v) (left s l)
           ≡ read (two-operands (combined (code-taken l .field)) v) (left s (code-taken l .rest))
-      two-coded two = coded m ∙ by-code-two v (code-taken l .field) (left s (code-taken l .rest)) some two
+      two-coded two = coded (omega arith) ∙ by-code-two v (code-taken l .field) (left s (code-taken l .rest)) some two m
 
       -- whatever the code is, its first operand is refused
       first-operand : {n : ℕ} → entry (operand v) (left s (code-taken l .rest)) ≡ refused n
@@ -108,100 +109,64 @@ module _ (s : List ℕ) (v : ℕ) (l : Loaded) (carries : Carries s l 57) where
   second-wrong t m =
       wrong s (first-taken l .rest) (operand v) (lit≤ tt) 34 (past-first carries) (lit≤ tt) t (above-out 0 v _ m)
 
-  -- ---- every field is there
+  -- ---- every operand is there
 
-  module _ (all : Enough s v l) {c : Taken} (tc : c ≡ taken 3 l) where
-    pub unknown-code : 5 ≤ c .field → InstructedFrom s v l (Refused refusal.Code)
-    unfolding instruction
-    unknown-code m =
-        refuses (rw (wrong s l code (lit≤ tt) 54 carries (lit≤ tt) (all .code-there) (above-out 0 5 _ (rw tc at m))))
+  module _ (o : Operands s v l) {c : Taken} (tc : c ≡ taken 3 l) {i : Taken} (ti : i ≡ taken 10 (c .rest)) where
+    is-first : i ≡ first-taken l
+    is-first = ti ∙ ap (λ (t : Taken). taken 10 (t .rest)) tc
 
-    module _ {k : Taken} (tk : k ≡ taken 32 (c .rest)) (none : c .field ≡ 0) where
-      is-constant : k ≡ constant-taken l
-      is-constant = tk ∙ ap (λ (t : Taken). taken 32 (t .rest)) tc
+    there : Reaches s (code-taken l .rest)
+    there = o .named .code-there
 
-      no-code : code-taken l .field ≡ 0
-      no-code = rw tc at none
+    some-code : code-taken l .field ≡ 0 → ⊥
+    some-code e = omega (arith, o .named .some, e)
 
-      pub constant-refused : k .field ≡ 2 ^ 31 → InstructedFrom s v l (Refused refusal.Constant)
+    pub first-refused : v ≤ i .field → InstructedFrom s v l (Refused refusal.Operand)
+    first-refused m =
+        refuses (first-operand there (o .named .most) some-code (first-wrong (o .first-there) (rw is-first at m)))
+
+    module _ (named : i .field < v) where
+      first-is : entry (operand v) (left s (code-taken l .rest))
+          ≡ value (record { got = first-taken l .field; left = left s (first-taken l .rest) })
+      first-is = first-fine (o .first-there) (rw is-first at named)
+
+      pub negate-ahead : {p : Cursor} → p ≡ place-of (i .rest) → c .field ≡ 1 → InstructedFrom s v l (Got (Negate (i .field)) p)
       unfolding by-code
-      constant-refused m =
-          let t = all .constant-there no-code in
-          let n : constant-taken l .field ≡ 2 ^ 31 = rw is-constant at m in
-          let e = wrong s (code-taken l .rest) constant (lit≤ tt) 22 (past-code carries) (lit≤ tt) t (ap not (eq-eqb _ (2 ^ 31) n)) in
-          refuses (coded-as (all .code-there) 0 (lit≤ tt) no-code ∙ rw e)
+      negate-ahead q one =
+          rw is-first
+          (gives (first-taken l .rest) (rw is-first at q) (omega arith) (coded-as there 1 (lit≤ tt) (rw tc at one) ∙ rw first-is))
 
-      pub constant-ahead : {z : ℤ} {p : Cursor} → (k .field ≡ 2 ^ 31 → ⊥) → z ≡ twos-complement (k .field)
-          → p ≡ place-of (k .rest) → InstructedFrom s v l (Got (Constant (back z)) p)
-      unfolding by-code
-      constant-ahead m e q =
-          let t = all .constant-there no-code in
-          let n : (constant-taken l .field ≡ 2 ^ 31 → ⊥) = rw is-constant at m in
-          let f = fine s (code-taken l .rest) constant (lit≤ tt) 22 (past-code carries) (lit≤ tt) t (ap not (ne-eqb _ (2 ^ 31) n)) in
-          rw (constant-kept carries (rw is-constant at e))
-          (gives (constant-taken l .rest) (rw is-constant at q) (omega arith) (coded-as (all .code-there) 0 (lit≤ tt) no-code ∙ rw f))
+      module _ (two : c .field ≡ 1 → ⊥) {j : Taken} (tj : j ≡ taken 10 (i .rest)) where
+        is-second : j ≡ second-taken l
+        is-second = tj ∙ ap (λ (t : Taken). taken 10 (t .rest)) is-first
 
-    module _ (some : c .field ≡ 0 → ⊥) (most : c .field < 5) {i : Taken} (ti : i ≡ taken 10 (c .rest)) where
-      is-first : i ≡ first-taken l
-      is-first = ti ∙ ap (λ (t : Taken). taken 10 (t .rest)) tc
+        other-code : code-taken l .field ≡ 1 → ⊥
+        other-code = rw tc at two
 
-      some-code : code-taken l .field ≡ 0 → ⊥
-      some-code = rw tc at some
+        second-there : Reaches s (second-taken l .rest)
+        second-there =
+            let d = other-code in
+            o .second-there (omega (arith, o .named .some)) (rw is-first at named)
 
-      most-code : code-taken l .field < 5
-      most-code = rw tc at most
+        both-coded : read (instruction v) (left s l)
+            ≡ read (two-operands (combined (code-taken l .field)) v) (left s (code-taken l .rest))
+        both-coded = two-coded there (o .named .most) some-code other-code
 
-      first-there : Reaches s (first-taken l .rest)
-      first-there = let n = some-code in all .operand-there (omega arith) most-code
+        pub second-refused : v ≤ j .field → InstructedFrom s v l (Refused refusal.Operand)
+        second-refused m = refuses (both-coded ∙ rw (first-is, second-wrong second-there (rw is-second at m)))
 
-      pub first-refused : v ≤ i .field → InstructedFrom s v l (Refused refusal.Operand)
-      first-refused m =
-          refuses (first-operand (all .code-there) most-code some-code (first-wrong first-there (rw is-first at m)))
+        second-stands : second-taken l .rest .at
+            ≡ l .at + wide (combined (code-taken l .field) (first-taken l .field) (second-taken l .field))
+        second-stands = omega (arith, combined-wide (code-taken l .field) (first-taken l .field) (second-taken l .field))
 
-      module _ (named : i .field < v) where
-        first-is : entry (operand v) (left s (code-taken l .rest))
-            ≡ value (record { got = first-taken l .field; left = left s (first-taken l .rest) })
-        first-is = first-fine first-there (rw is-first at named)
-
-        pub negate-ahead : {p : Cursor} → p ≡ place-of (i .rest) → c .field ≡ 1
-            → InstructedFrom s v l (Got (Negate (i .field)) p)
-        unfolding by-code
-        negate-ahead q one =
-            rw is-first
-            (gives (first-taken l .rest) (rw is-first at q) (omega arith) (coded-as (all .code-there) 1 (lit≤ tt) (rw tc at one) ∙ rw first-is))
-
-        module _ (two : c .field ≡ 1 → ⊥) {j : Taken} (tj : j ≡ taken 10 (i .rest)) where
-          is-second : j ≡ second-taken l
-          is-second = tj ∙ ap (λ (t : Taken). taken 10 (t .rest)) is-first
-
-          other-code : code-taken l .field ≡ 1 → ⊥
-          other-code = rw tc at two
-
-          second-there : Reaches s (second-taken l .rest)
-          second-there =
-              let n = some-code in
-              let o = other-code in
-              all .second-there (omega arith) most-code (rw is-first at named)
-
-          pub second-refused : v ≤ j .field → InstructedFrom s v l (Refused refusal.Operand)
-          second-refused m =
-              refuses
-              (two-coded (all .code-there) most-code some-code other-code
-              ∙ rw (first-is, second-wrong second-there (rw is-second at m)))
-
-          second-stands : second-taken l .rest .at
-              ≡ l .at + wide (combined (code-taken l .field) (first-taken l .field) (second-taken l .field))
-          second-stands = omega (arith, combined-wide (code-taken l .field) (first-taken l .field) (second-taken l .field))
-
-          pub two-ahead : {x : Instruction} {p : Cursor} → j .field < v → p ≡ place-of (j .rest)
-              → x ≡ combined (c .field) (i .field) (j .field) → InstructedFrom s v l (Got x p)
-          two-ahead {x} m q e =
-              let x-is : x ≡ combined (code-taken l .field) (first-taken l .field) (second-taken l .field) =
-              rw (tc, is-first, is-second) at e in
-              rw x-is
-              (gives (second-taken l .rest) (rw is-second at q) second-stands
-              (two-coded (all .code-there) most-code some-code other-code
-              ∙ rw (first-is, second-fine second-there (rw is-second at m))))
+        pub two-ahead : {x : Instruction} {p : Cursor} → j .field < v → p ≡ place-of (j .rest)
+            → x ≡ combined (c .field) (i .field) (j .field) → InstructedFrom s v l (Got x p)
+        two-ahead {x} m q e =
+            let x-is : x ≡ combined (code-taken l .field) (first-taken l .field) (second-taken l .field) =
+            rw (tc, is-first, is-second) at e in
+            rw x-is
+            (gives (second-taken l .rest) (rw is-second at q) second-stands
+            (both-coded ∙ rw (first-is, second-fine second-there (rw is-second at m))))
 
   -- ---- or the bytes end
 
@@ -213,124 +178,165 @@ module _ (s : List ℕ) (v : ℕ) (l : Loaded) (carries : Carries s l 57) where
     unfolding instruction
     cut-code e = refuses (rw (missing s l code (lit≤ tt) (ltb-true _ _ (sym code-test ∙ e))))
 
-    module _ (e : b ≡ false) where
-      there : Reaches s (code-taken l .rest)
-      there = record { is = ltb-false _ _ (sym code-test ∙ e) }
+  module _ (o : Named s l) {c : Taken} (tc : c ≡ taken 3 l) {i : Taken} (ti : i ≡ taken 10 (c .rest)) {d : Bool}
+      (td : d ≡ ltb (8 * length s) (i .rest .at)) where
+    first-is' : i ≡ first-taken l
+    first-is' = ti ∙ ap (λ (t : Taken). taken 10 (t .rest)) tc
 
-      pub enough-code : 5 ≤ c .field → Enough s v l
-      enough-code m =
-          let n : 5 ≤ code-taken l .field = rw tc at m in
-          record {
-            code-there = there;
-            constant-there = λ z. absurd (omega arith);
-            operand-there = λ p q. absurd (omega arith);
-            second-there = λ p q r. absurd (omega arith);
-          }
+    first-test : d ≡ ltb (8 * length s) (first-taken l .rest .at)
+    first-test = rw first-is' at td
 
-      pub cut-or-constant : {k : Taken} {r : Bool} → c .field ≡ 0 → k ≡ taken 32 (c .rest)
-          → r ≡ ltb (8 * length s) (k .rest .at) → CutShort s v l r
-      unfolding by-code
-      cut-or-constant {k} {r} none tk tr = by-test r refl
+    some' : code-taken l .field ≡ 0 → ⊥
+    some' e = omega (arith, o .some, e)
+
+    pub cut-first : d ≡ true → InstructedFrom s v l (Refused refusal.Ended)
+    cut-first f =
+        refuses
+        (first-operand (o .code-there) (o .most) some'
+        (missing s (code-taken l .rest) (operand v) (lit≤ tt) (ltb-true _ _ (sym first-test ∙ f))))
+
+    module _ (f : d ≡ false) where
+      reaches-first : Reaches s (first-taken l .rest)
+      reaches-first = record { is = ltb-false _ _ (sym first-test ∙ f) }
+
+      enough-operand : (2 ≤ code-taken l .field → first-taken l .field < v → Reaches s (second-taken l .rest)) → Operands s v l
+      enough-operand g = record { named = o; first-there = reaches-first; second-there = g }
+
+      pub enough-negate : c .field ≡ 1 → Operands s v l
+      enough-negate e = let n : code-taken l .field ≡ 1 = rw tc at e in enough-operand (λ p q. absurd (omega arith))
+
+      pub enough-unnamed : v ≤ i .field → Operands s v l
+      enough-unnamed m =
+          let n : v ≤ first-taken l .field = rw first-is' at m in
+          enough-operand (λ p q. absurd (omega arith))
+
+      pub cut-or-second : {j : Taken} {r : Bool} → (c .field ≡ 1 → ⊥) → i .field < v → j ≡ taken 10 (i .rest)
+          → r ≡ ltb (8 * length s) (j .rest .at) → CutShort s v l r
+      cut-or-second {j} {r} two named tj tr = by-test r refl
         where
-          no-code : code-taken l .field ≡ 0
-          no-code = rw tc at none
+          test : r ≡ ltb (8 * length s) (second-taken l .rest .at)
+          test = rw (tj, first-is') at tr
 
-          test : r ≡ ltb (8 * length s) (constant-taken l .rest .at)
-          test = rw (tk, tc) at tr
+          other : code-taken l .field ≡ 1 → ⊥
+          other = rw tc at two
+
+          named' : first-taken l .field < v
+          named' = rw first-is' at named
 
           by-test : (t : Bool) → r ≡ t → CutShort s v l t
           by-test true u =
               refuses
-              (coded-as there 0 (lit≤ tt) no-code
-              ∙ rw (missing s (code-taken l .rest) constant (lit≤ tt) (ltb-true _ _ (sym test ∙ u))))
-          by-test false u =
+              (two-coded (o .code-there) (o .most) some' other
+              ∙ rw (
+                first-fine reaches-first named',
+                missing s (first-taken l .rest) (operand v) (lit≤ tt) (ltb-true _ _ (sym test ∙ u)),
+              ))
+          by-test false u = enough-operand (λ p q. record { is = ltb-false _ _ (sym test ∙ u) })
+
+  -- ---- where eight bytes are there, all are
+
+  module _ (near : l .at ≤ 2 ^ 30) (e : l .at / 8 + 8 ≤ length s) {c : Taken} (tc : c ≡ taken 3 l) where
+    pub whole-operands : (c .field ≡ 0 → ⊥) → c .field < 5 → Operands s v l
+    whole-operands some m =
+        let z : (code-taken l .field ≡ 0 → ⊥) = rw tc at some in
+        record {
+          named =
               record {
-                code-there = there;
-                constant-there = λ z. record { is = ltb-false _ _ (sym test ∙ u) };
-                operand-there = λ p q. absurd (omega (arith, no-code));
-                second-there = λ p q r. absurd (omega (arith, no-code));
-              }
+                near = near;
+                carries = carries;
+                code-there = record { is = omega arith };
+                some = omega (arith, z);
+                most = rw tc at m;
+              };
+          first-there = record { is = omega arith };
+          second-there = λ p q. record { is = omega arith };
+        }
 
-      module _ (some : c .field ≡ 0 → ⊥) (most : c .field < 5) {i : Taken} (ti : i ≡ taken 10 (c .rest))
-          {d : Bool} (td : d ≡ ltb (8 * length s) (i .rest .at)) where
-        first-is' : i ≡ first-taken l
-        first-is' = ti ∙ ap (λ (t : Taken). taken 10 (t .rest)) tc
+-- ---- which code is there
 
-        first-test : d ≡ ltb (8 * length s) (first-taken l .rest .at)
-        first-test = rw first-is' at td
+module _ {s : List ℕ} {l : Loaded} {c : Taken} (carries : Carries s l 57) (near : l .at ≤ 2 ^ 30) (tc : c ≡ taken 3 l) where
+  module _ {b : Bool} (tb : b ≡ ltb (8 * length s) (c .rest .at)) (e : b ≡ false) where
+    reached : Reaches s (code-taken l .rest)
+    reached = let t : b ≡ ltb (8 * length s) (code-taken l .rest .at) = rw tc at tb in record { is = ltb-false _ _ (sym t ∙ e) }
 
-        some' : code-taken l .field ≡ 0 → ⊥
-        some' = rw tc at some
+    pub is-zero-code : c .field ≡ 0 → ZeroCode s l
+    is-zero-code none = record { near = near; carries = carries; code-there = reached; is-zero = rw tc at none }
 
-        most' : code-taken l .field < 5
-        most' = rw tc at most
+    pub is-beyond : 5 ≤ c .field → Beyond s l
+    is-beyond m = record { near = near; carries = carries; code-there = reached; from-five = rw tc at m }
 
-        pub cut-first : d ≡ true → InstructedFrom s v l (Refused refusal.Ended)
-        cut-first f =
-            refuses
-            (first-operand there most' some'
-            (missing s (code-taken l .rest) (operand v) (lit≤ tt) (ltb-true _ _ (sym first-test ∙ f))))
+    pub is-named : (c .field ≡ 0 → ⊥) → c .field < 5 → Named s l
+    is-named some m =
+        let z : (code-taken l .field ≡ 0 → ⊥) = rw tc at some in
+        record { near = near; carries = carries; code-there = reached; some = omega (arith, z); most = rw tc at m }
 
-        module _ (f : d ≡ false) where
-          reaches-first : Reaches s (first-taken l .rest)
-          reaches-first = record { is = ltb-false _ _ (sym first-test ∙ f) }
+  module _ (e : l .at / 8 + 8 ≤ length s) where
+    pub whole-constant : c .field ≡ 0 → Zeroth s l
+    whole-constant none =
+        record { near = near; carries = carries; is-zero = rw tc at none; constant-there = record { is = omega arith } }
 
-          enough-operand : (2 ≤ code-taken l .field → first-taken l .field < v → Reaches s (second-taken l .rest)) → Enough s v l
-          enough-operand g =
-              record {
-                code-there = there;
-                constant-there = λ z. absurd (some' z);
-                operand-there = λ p q. reaches-first;
-                second-there = λ p q r. g p r;
-              }
+    pub whole-beyond : 5 ≤ c .field → Beyond s l
+    whole-beyond m =
+        record { near = near; carries = carries; code-there = record { is = omega arith }; from-five = rw tc at m }
 
-          pub enough-negate : c .field ≡ 1 → Enough s v l
-          enough-negate o = let n : code-taken l .field ≡ 1 = rw tc at o in enough-operand (λ p q. absurd (omega arith))
+-- ---- a constant
 
-          pub enough-unnamed : v ≤ i .field → Enough s v l
-          enough-unnamed m =
-              let n : v ≤ first-taken l .field = rw first-is' at m in
-              enough-operand (λ p q. absurd (omega arith))
+module _ {s : List ℕ} {l : Loaded} (o : ZeroCode s l) {c k : Taken} {r : Bool} (tc : c ≡ taken 3 l)
+    (tk : k ≡ taken 32 (c .rest)) (tr : r ≡ ltb (8 * length s) (k .rest .at)) where
+  constant-test : r ≡ ltb (8 * length s) (constant-taken l .rest .at)
+  constant-test = rw (tk, tc) at tr
 
-          pub cut-or-second : {j : Taken} {r : Bool} → (c .field ≡ 1 → ⊥) → i .field < v → j ≡ taken 10 (i .rest)
-              → r ≡ ltb (8 * length s) (j .rest .at) → CutShort s v l r
-          cut-or-second {j} {r} two named tj tr = by-test r refl
-            where
-              test : r ≡ ltb (8 * length s) (second-taken l .rest .at)
-              test = rw (tj, first-is') at tr
-
-              other : code-taken l .field ≡ 1 → ⊥
-              other = rw tc at two
-
-              named' : first-taken l .field < v
-              named' = rw first-is' at named
-
-              by-test : (t : Bool) → r ≡ t → CutShort s v l t
-              by-test true u =
-                  refuses
-                  (two-coded there most' some' other
-                  ∙ rw (
-                    first-fine reaches-first named',
-                    missing s (first-taken l .rest) (operand v) (lit≤ tt) (ltb-true _ _ (sym test ∙ u)),
-                  ))
-              by-test false u = enough-operand (λ p q. record { is = ltb-false _ _ (sym test ∙ u) })
-
-  -- where eight bytes are there, all are
-  pub enough-bytes : l .at / 8 + 8 ≤ length s → Enough s v l
-  enough-bytes e =
+  pub cut-constant : r ≡ true → ReadFrom s l (Refused refusal.Ended)
+  unfolding by-code
+  cut-constant u =
       record {
-        code-there = record { is = omega arith };
-        constant-there = λ z. record { is = omega arith };
-        operand-there = λ p q. record { is = omega arith };
-        second-there = λ p q r. record { is = omega arith };
+        is = λ v. refuses s v l (o .carries)
+            (coded-as s v l (o .carries) (o .code-there) 0 (lit≤ tt) (o .is-zero)
+            ∙ rw (missing s (code-taken l .rest) constant (lit≤ tt) (ltb-true _ _ (sym constant-test ∙ u))));
       }
+
+  pub whole-behind : r ≡ false → Zeroth s l
+  whole-behind u =
+      record {
+        near = o .near;
+        carries = o .carries;
+        is-zero = o .is-zero;
+        constant-there = record { is = ltb-false _ _ (sym constant-test ∙ u) };
+      }
+
+module _ {s : List ℕ} {l : Loaded} (o : Zeroth s l) {c k : Taken} (tc : c ≡ taken 3 l) (tk : k ≡ taken 32 (c .rest)) where
+  same-constant : k ≡ constant-taken l
+  same-constant = tk ∙ ap (λ (t : Taken). taken 32 (t .rest)) tc
+
+  asks : (v : ℕ) → read (instruction v) (left s l) ≡ read (by-code v 0) (left s (code-taken l .rest))
+  asks v = coded-as s v l (o .carries) (record { is = omega (arith, o .constant-there .is) }) 0 (lit≤ tt) (o .is-zero)
+
+  pub constant-refused : k .field ≡ 2 ^ 31 → ReadFrom s l (Refused refusal.Constant)
+  unfolding by-code
+  constant-refused m =
+      let n : constant-taken l .field ≡ 2 ^ 31 = rw same-constant at m in
+      let e = wrong s (code-taken l .rest) constant (lit≤ tt) 22 (past-code (o .carries)) (lit≤ tt) (o .constant-there) (ap not (eq-eqb _ (2 ^ 31) n)) in
+      record { is = λ v. refuses s v l (o .carries) (asks v ∙ rw e) }
+
+  pub constant-ahead : {z : ℤ} {p : Cursor} → (k .field ≡ 2 ^ 31 → ⊥) → z ≡ twos-complement (k .field)
+      → p ≡ place-of (k .rest) → ReadFrom s l (Got (Constant (back z)) p)
+  unfolding by-code
+  constant-ahead m e q =
+      let n : (constant-taken l .field ≡ 2 ^ 31 → ⊥) = rw same-constant at m in
+      let f = fine s (code-taken l .rest) constant (lit≤ tt) 22 (past-code (o .carries)) (lit≤ tt) (o .constant-there) (ap not (ne-eqb _ (2 ^ 31) n)) in
+      rw (constant-kept (o .carries) (rw same-constant at e))
+      (record { is = λ v. gives s v l (o .carries) (constant-taken l .rest) (rw same-constant at q) (omega arith) (asks v ∙ rw f) })
 
 module _ (s : List ℕ) (v : ℕ) (l : Loaded) {r : Bool} where
   pub was-cut-short : CutShort s v l r → r ≡ true → InstructedFrom s v l (Refused refusal.Ended)
   was-cut-short a e = rw e at a
 
-  pub was-enough : CutShort s v l r → r ≡ false → Enough s v l
+  pub was-enough : CutShort s v l r → r ≡ false → Operands s v l
   was-enough a e = rw e at a
+
+-- what is read whichever value is made, for the value that is made
+pub read-from : {s : List ℕ} {v : ℕ} {l : Loaded} {r : InstructionRead} → ReadFrom s l r → InstructedFrom s v l r
+read-from o = o .is _
 
 -- what is read from a cursor's place, once its bits are loaded
 pub from-place : {s : List ℕ} {v : ℕ} {c : Cursor} {l : Loaded} {r : InstructionRead} → Loads s c l

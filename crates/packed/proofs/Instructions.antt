@@ -1,18 +1,18 @@
--- Constants in two's complement, and the codes from 2 on. Assumes nothing.
+-- Constants in two's complement, and what the codes from 2 on ask for. Assumes nothing.
 use mathlib.Core.Path.{_≡_, refl, _∙_, ap}
 use mathlib.Core.Bool.{Bool, true, false, cond}
 use mathlib.Core.List.{List}
 use Prim.Native.Nat.{ℕ, zero, suc, _^_, _≤_, _<_}
 use native.Mathlib.Omega.{arith}
 use lib.Dec.{ltb, lit≤}
-use borrow.Author.Tests.{ne-eqb, lt-ltb, le-ltb, ltb-true, ltb-false}
+use borrow.Author.Tests.{lt-ltb, le-ltb, ltb-true, ltb-false}
 use lib.IntN.{ℤ, pos, natAbs, _-ℤ_}
 use Rattle.whole.proofs.Machine.{back, back-is}
 use Rattle.whole.proofs.Size.{size-sub}
 use Rattle.formulas.specs.declared.Instruction.{Instruction}
-use Rattle.formulas.specs.declared.Instruction.the-variants.{Constant, Negate, Add, Subtract, Multiply}
-use Rattle.packed.specs.Items.{read}
-use Rattle.packed.specs.Format.{twos-complement, two-operands, by-code, wide}
+use Rattle.formulas.specs.declared.Instruction.the-variants.{Constant, Negate, Add, Subtract, Multiply, Coefficient}
+use Rattle.packed.specs.Items.{twos-complement, read}
+use Rattle.packed.specs.Format.{two-operands, with-margin, by-code, wide, widest}
 use Rattle.packed.specs.ReaderAnswers.{combined}
 
 pub twos-complement-low : (c : ℕ) → c < 2 ^ 31 → twos-complement c ≡ pos c
@@ -23,30 +23,43 @@ pub twos-complement-high : (c : ℕ) → 2 ^ 31 ≤ c → twos-complement c ≡ 
 unfolding twos-complement
 twos-complement-high c l = ap (λ (t : Bool). cond t (pos c) (pos c -ℤ pos (2 ^ 32))) (le-ltb c (2 ^ 31) l)
 
--- a constant that was kept in 64 bits
-pub twos-complement-back : (c : ℕ) {z : ℤ} → c < 2 ^ 32 → z ≡ twos-complement c → back z ≡ twos-complement c
-twos-complement-back c {z} l e = ap back e ∙ back-is (twos-complement c) (size (ltb c (2 ^ 31)) refl)
+pub twos-complement-size : (c : ℕ) → c < 2 ^ 32 → natAbs (twos-complement c) < 2 ^ 63
+twos-complement-size c l = by-sign (ltb c (2 ^ 31)) refl
   where
-    size : (t : Bool) → ltb c (2 ^ 31) ≡ t → natAbs (twos-complement c) < 2 ^ 63
-    size true k = rw (twos-complement-low c (ltb-true c (2 ^ 31) k)) (omega arith)
-    size false k =
+    by-sign : (t : Bool) → ltb c (2 ^ 31) ≡ t → natAbs (twos-complement c) < 2 ^ 63
+    by-sign true k = rw (twos-complement-low c (ltb-true c (2 ^ 31) k)) (omega arith)
+    by-sign false k =
         rw (twos-complement-high c (ltb-false c (2 ^ 31) k)) (omega (arith, size-sub (pos c) (pos (2 ^ 32))))
 
--- from code 2 on
-pub by-code-two : (v code : ℕ) (bs : List ℕ) → (code ≡ 0 → ⊥) → (code ≡ 1 → ⊥)
-    → read (by-code v code) bs ≡ read (two-operands (combined code) v) bs
-unfolding by-code
-by-code-two v zero bs p q = absurd (p refl)
-by-code-two v (suc zero) bs p q = absurd (q refl)
-by-code-two v (suc (suc zero)) bs p q = refl
-by-code-two v (suc (suc (suc zero))) bs p q = refl
-by-code-two v (suc (suc (suc (suc k)))) bs p q =
-    rw (ne-eqb (suc (suc (suc (suc k)))) 2 (omega arith), ne-eqb (suc (suc (suc (suc k)))) 3 (omega arith))
+-- a constant that was kept in 64 bits
+pub twos-complement-back : (c : ℕ) {z : ℤ} → c < 2 ^ 32 → z ≡ twos-complement c → back z ≡ twos-complement c
+twos-complement-back c {z} l e = ap back e ∙ back-is (twos-complement c) (twos-complement-size c l)
 
--- no instruction takes more bits than a constant
-pub wide-most : (i : Instruction) → wide i ≤ 35
+-- codes 2 to 4
+pub by-code-two : (v code : ℕ) (bs : List ℕ) → (code ≡ 0 → ⊥) → (code ≡ 1 → ⊥)
+    → code < 5 → read (by-code v code) bs ≡ read (two-operands (combined code) v) bs
+unfolding by-code
+by-code-two v zero bs p q l = absurd (p refl)
+by-code-two v (suc zero) bs p q l = absurd (q refl)
+by-code-two v (suc (suc zero)) bs p q l = refl
+by-code-two v (suc (suc (suc zero))) bs p q l = refl
+by-code-two v (suc (suc (suc (suc zero)))) bs p q l = refl
+by-code-two v (suc (suc (suc (suc (suc k))))) bs p q l = absurd (omega arith)
+
+-- from code 5 on
+pub by-code-margin : (v code : ℕ) (bs : List ℕ) → 5 ≤ code → read (by-code v code) bs ≡ read with-margin bs
+unfolding by-code
+by-code-margin v zero bs l = absurd (omega arith)
+by-code-margin v (suc zero) bs l = absurd (omega arith)
+by-code-margin v (suc (suc zero)) bs l = absurd (omega arith)
+by-code-margin v (suc (suc (suc zero))) bs l = absurd (omega arith)
+by-code-margin v (suc (suc (suc (suc zero)))) bs l = absurd (omega arith)
+by-code-margin v (suc (suc (suc (suc (suc k))))) bs l = refl
+
+pub wide-most : (i : Instruction) → wide i ≤ widest
 wide-most (Constant c) = lit≤ tt
 wide-most (Negate i) = lit≤ tt
 wide-most (Add i j) = lit≤ tt
 wide-most (Subtract i j) = lit≤ tt
 wide-most (Multiply i j) = lit≤ tt
+wide-most (Coefficient c r) = lit≤ tt

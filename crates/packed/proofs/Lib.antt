@@ -8,6 +8,7 @@ pub mod WellFormed
 pub mod PaddingGiven
 pub mod GivenExactly
 pub mod Shapes
+pub mod Margins
 pub mod Accepted
 pub mod Formed
 pub mod OneInstruction

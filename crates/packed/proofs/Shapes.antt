@@ -18,9 +18,9 @@ use Rattle.formulas.specs.declared.Instruction.{Instruction}
 use Rattle.formulas.specs.declared.Instruction.the-variants.{Constant, Negate}
 use Rattle.packed.specs.declared.loaded.Loaded.{Loaded}
 use Rattle.packed.specs.declared.loaded.Taken.{Taken}
-use Rattle.packed.specs.Items.{FieldKind, code, constant, operand, width, permitted, complaint, entry, Form, ask}
-use Rattle.packed.specs.Items.{done, read}
-use Rattle.packed.specs.Format.{twos-complement, by-code, instruction, wide}
+use Rattle.packed.specs.Items.{FieldKind, code, constant, operand, twos-complement, width, permitted, complaint}
+use Rattle.packed.specs.Items.{entry, Form, ask, done, read}
+use Rattle.packed.specs.Format.{by-code, instruction, wide}
 use Rattle.packed.specs.Loading.{place-of, left, taken, Carries, Loads}
 use Rattle.packed.specs.ReaderAnswers.{combined, code-taken, constant-taken, first-taken, second-taken}
 use Rattle.packed.specs.Walk.{Readable, Decodes, DecodesFrom}
@@ -56,7 +56,7 @@ asked k f bs {x} e =
     record { there = t .there; follows = after }
 
 -- the same off a loaded cursor
-next : {A : Type 0} {s : List ℕ} {l : Loaded} (k : FieldKind) (n : ℕ) (f : ℕ → Form A) {x : Read A}
+pub next : {A : Type 0} {s : List ℕ} {l : Loaded} (k : FieldKind) (n : ℕ) (f : ℕ → Form A) {x : Read A}
     → Carries s l (width k + n) → width k + n ≤ 64 → 1 ≤ width k → read (ask k f) (left s l) ≡ value x
     → read (f (taken (width k) l .field)) (left s (taken (width k) l .rest)) ≡ value x
 next {s = s} {l} k n f {x} c most some e =
@@ -65,13 +65,13 @@ next {s = s} {l} k n f {x} c most some e =
     (drop-drop (width k) (l .at) (bits s)) (a .follows)
 
 module _ (s : List ℕ) (l : Loaded) (carries : Carries s l 57) where
-  coded : (v : ℕ) {y : Read Instruction} → read (instruction v) (left s l) ≡ value y
+  pub coded : (v : ℕ) {y : Read Instruction} → read (instruction v) (left s l) ≡ value y
       → read (by-code v (code-taken l .field)) (left s (code-taken l .rest)) ≡ value y
   unfolding instruction
   coded v e = next code 54 (by-code v) carries (lit≤ tt) (lit≤ tt) e
 
   -- what was read is i, and it ends at d
-  decodes : {i : Instruction} (d : Loaded) {p : Cursor} → p ≡ place-of d → d .at ≡ l .at + wide i
+  pub decodes : {i : Instruction} (d : Loaded) {p : Cursor} → p ≡ place-of d → d .at ≡ l .at + wide i
       → ((v : ℕ) (y : Read Instruction) → read (instruction v) (left s l) ≡ value y
       → record { got = i; left = left s d } ≡ y) → DecodesFrom s l i p
   decodes {i} d q w same =
@@ -118,14 +118,14 @@ module _ (s : List ℕ) (l : Loaded) (carries : Carries s l 57) where
           (next (operand v) 44 (λ n. done (Negate n)) (past-code carries) (lit≤ tt) (lit≤ tt)
           (rw is-one at (coded v e)))))
 
-      pub decoded-two : {j : Taken} {x : Instruction} {p : Cursor} → (c .field ≡ 0 → ⊥) → (c .field ≡ 1 → ⊥)
-          → j ≡ taken 10 (i .rest) → p ≡ place-of (j .rest) → x ≡ combined (c .field) (i .field) (j .field)
+      pub decoded-two : {j : Taken} {x : Instruction} {p : Cursor} → (c .field ≡ 0 → ⊥) → c .field < 5
+          → (c .field ≡ 1 → ⊥) → j ≡ taken 10 (i .rest) → p ≡ place-of (j .rest) → x ≡ combined (c .field) (i .field) (j .field)
           → DecodesFrom s l x p
-      decoded-two {j} {x} some two tj q m =
+      decoded-two {j} {x} some few two tj q m =
           rw x-is
           (decodes (second-taken l .rest) (rw is-second at q) stands
           (λ v y e.
-          let both = sym (by-code-two v (code-taken l .field) (left s (code-taken l .rest)) some' two') ∙ coded v e in
+          let both = sym (by-code-two v (code-taken l .field) (left s (code-taken l .rest)) some' two' few') ∙ coded v e in
           let b = next (operand v) 44 (second v) (past-code carries) (lit≤ tt) (lit≤ tt) both in
           same-value (next (operand v) 34 (whole (first-taken l .field)) (past-first carries) (lit≤ tt) (lit≤ tt) b)))
         where
@@ -140,6 +140,9 @@ module _ (s : List ℕ) (l : Loaded) (carries : Carries s l 57) where
 
           some' : code-taken l .field ≡ 0 → ⊥
           some' = rw tc at some
+
+          few' : code-taken l .field < 5
+          few' = rw tc at few
 
           two' : code-taken l .field ≡ 1 → ⊥
           two' = rw tc at two

@@ -40,11 +40,14 @@ module _ {s : List ℕ} {c : Cursor} {l : Loaded} (o : Loads s c l) where
   pub loaded-near : c .at ≤ 2 ^ 30 → l .at ≤ 2 ^ 30
   loaded-near n = rw (o .is) n
 
+  pub loaded-takes : c .at ≤ 2 ^ 30 → l .at ≤ 2 ^ 31
+  loaded-takes n = rw (o .is) (omega arith)
+
   pub loaded-eight : c .at / 8 + 8 ≤ length s → l .at / 8 + 8 ≤ length s
   loaded-eight n = rw (o .is) n
 
 module _ (s : List ℕ) (l : Loaded) where
-  left-long : length (left s l) ≡ 8 * length s - l .at
+  pub left-long : length (left s l) ≡ 8 * length s - l .at
   left-long = omega (arith, length-drop (l .at) (bits s), length-bits s)
 
   module _ (w n : ℕ) (c : Carries s l (w + n)) (most : w + n ≤ 64) where

@@ -7,9 +7,11 @@ use Prim.Native.Nat.{ℕ, zero, suc, _+_, _^_, _≤_, _<_}
 use native.Mathlib.Omega.{arith}
 use lib.Dec.{leb, ltb, eqb}
 use borrow.Author.Tests.{leb-true, ltb-true, ltb-false, eqb-false, not-true}
+use lib.IntN.{natAbs}
 use lib.ListN.{length}
 use Rattle.refusals.specs.Answer.{value, refused}
 use Rattle.refusals.proofs.Answers.{no-value, same-value, first-of}
+use Rattle.rules.specs.Numbers.{M}
 use Rattle.rules.specs.Values.{Allowed}
 use Rattle.bits.specs.Bits.{bits}
 use Rattle.bits.specs.Reader.{Read}
@@ -21,8 +23,8 @@ use Rattle.formulas.specs.declared.Header.{Header}
 use Rattle.formulas.specs.declared.Instruction.{Instruction}
 use Rattle.formulas.specs.declared.Instruction.the-variants.{Add, Subtract, Multiply}
 use Rattle.packed.specs.Items.{FieldKind, scale, inputs, instructions, outputs, code, width, permitted, complaint}
-use Rattle.packed.specs.Items.{from-below, entry, Form, done, ask, read, _>>=_}
-use Rattle.packed.specs.Format.{header, twos-complement, two-operands, by-code, instruction, several, results}
+use Rattle.packed.specs.Items.{twos-complement, from-below, entry, Form, done, ask, read, _>>=_}
+use Rattle.packed.specs.Format.{header, two-operands, by-code, instruction, several, results}
 use Rattle.packed.specs.Format.{is-padding}
 use Rattle.formulas.specs.Formula.{InLimits, Formula, Smaller, WellFormed}
 use Rattle.packed.specs.Meaning.{body, whole, if-padded, formula}
@@ -107,7 +109,9 @@ by-code-gives v zero = on-asking λ c t l. at-once (constant-allowed c l t)
 by-code-gives v (suc zero) = on-asking λ i t l. at-once (in-range 0 v i t .1)
 by-code-gives v (suc (suc zero)) = two-gives v Add (λ i j p q. (p, q))
 by-code-gives v (suc (suc (suc zero))) = two-gives v Subtract (λ i j p q. (p, q))
-by-code-gives v (suc (suc (suc (suc k)))) = two-gives v Multiply (λ i j p q. (p, q))
+by-code-gives v (suc (suc (suc (suc zero)))) = two-gives v Multiply (λ i j p q. (p, q))
+by-code-gives v (suc (suc (suc (suc (suc k))))) =
+    on-asking λ c t l. on-asking λ r u m. at-once (leb-true (natAbs (twos-complement c) + r) M u)
 
 pub instruction-gives : (v : ℕ) → Gives (Smaller v) (instruction v)
 unfolding instruction

@@ -1,16 +1,16 @@
 -- Document 01, "The packed formula": its header, its instructions, its outputs, its padding.
-use mathlib.Core.Bool.{Bool, cond, _&&_}
+use mathlib.Core.Bool.{Bool, _&&_}
 use mathlib.Core.List.{List, [], _∷_}
-use Prim.Native.Nat.{ℕ, zero, suc, _+_, _^_}
+use Prim.Native.Nat.{ℕ, zero, suc, _+_}
 use lib.Dec.{ltb, eqb}
-use lib.IntN.{ℤ, pos, _-ℤ_}
 use lib.ListN.{length}
 use Rattle.bits.specs.Bits.{number}
 use Rattle.formulas.specs.declared.Header.{Header}
 use Rattle.formulas.specs.declared.Instruction.{Instruction}
-use Rattle.formulas.specs.declared.Instruction.the-variants.{Constant, Negate, Add, Subtract, Multiply}
-use Rattle.packed.specs.Items.{version, scale, inputs, instructions, outputs, code, constant, operand, Form, done}
-use Rattle.packed.specs.Items.{item, _>>=_, _>>_}
+use Rattle.formulas.specs.declared.Instruction.the-variants.{Constant, Negate, Add, Subtract, Multiply, Coefficient}
+use Rattle.packed.specs.Items.{version, scale, inputs, instructions, outputs}
+use Rattle.packed.specs.Items.{code, constant, operand, centre, margin}
+use Rattle.packed.specs.Items.{twos-complement, Form, done, item, _>>=_, _>>_}
 
 -- "Header, 32 bits: version .., scale .., inputs m .., instructions l .., outputs n"
 unfoldable pub header : Form Header
@@ -22,10 +22,6 @@ header = do
   n ← item outputs
   done (record { scale = F; inputs = m; instructions = l; outputs = n })
 
--- "in two's complement": 32 bits that stand for c from 0 on, or for c − 2^32 from 2^31 on
-unfoldable pub twos-complement : ℕ → ℤ
-twos-complement c = cond (ltb c (2 ^ 31)) (pos c) (pos c -ℤ pos (2 ^ 32))
-
 -- two operands, and what is made of them
 abbrev pub two-operands : {A : Type 0} → (ℕ → ℕ → A) → ℕ → Form A
 two-operands make v = do
@@ -33,8 +29,15 @@ two-operands make v = do
   j ← item (operand v)
   done (make i j)
 
--- "then a constant .., or one operand .. (code 1), or two"; they "may name only smaller values" than v, and 4 is the
--- last permitted code
+-- "32 bits of centre and 31 of margin"
+abbrev pub with-margin : Form Instruction
+with-margin = do
+  c ← item centre
+  r ← item (margin c)
+  done (Coefficient (twos-complement c) r)
+
+-- "then a constant .., or one operand .. (code 1), or two", or (code 5) a centre and a margin; operands "may name only
+-- smaller values" than v, and 5 is the last permitted code
 unfoldable pub by-code : ℕ → ℕ → Form Instruction
 by-code v zero = do
   c ← item constant
@@ -44,7 +47,8 @@ by-code v (suc zero) = do
   done (Negate i)
 by-code v (suc (suc zero)) = two-operands Add v
 by-code v (suc (suc (suc zero))) = two-operands Subtract v
-by-code v (suc (suc (suc (suc k)))) = two-operands Multiply v
+by-code v (suc (suc (suc (suc zero)))) = two-operands Multiply v
+by-code v (suc (suc (suc (suc (suc k))))) = with-margin
 
 -- "Each instruction: code 3; then .."; it makes value v
 unfoldable pub instruction : ℕ → Form Instruction
@@ -52,13 +56,19 @@ instruction v = do
   c ← item code
   by-code v c
 
--- so many bits it takes: "code 3", then "a constant of 32 bits" or an "operand of 10 bits" each
+-- so many bits it takes: "code 3", then "a constant of 32 bits", an "operand of 10 bits" each, or "32 bits of centre
+-- and 31 of margin"
 abbrev pub wide : Instruction → ℕ
 wide (Constant c) = 3 + 32
 wide (Negate i) = 3 + 10
 wide (Add i j) = 3 + 10 + 10
 wide (Subtract i j) = 3 + 10 + 10
 wide (Multiply i j) = 3 + 10 + 10
+wide (Coefficient c r) = 3 + 32 + 31
+
+-- no instruction takes more
+abbrev pub widest : ℕ
+widest = 3 + 32 + 31
 
 abbrev pub all-wide : List Instruction → ℕ
 all-wide [] = 0

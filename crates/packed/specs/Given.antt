@@ -2,13 +2,16 @@
 use mathlib.Core.Path.{_≡_}
 use mathlib.Core.List.{List}
 use mathlib.Core.Logic.{_⊎_}
-use Prim.Native.Nat.{ℕ, _%_, _^_, _≤_, _<_}
+use Prim.Native.Nat.{ℕ, _+_, _%_, _^_, _≤_, _<_}
+use lib.IntN.{natAbs}
 use lib.ListN.{length, getD, take}
+use Rattle.rules.specs.Numbers.{M}
 use Rattle.refusals.specs.Answer.{value}
 use Rattle.bits.specs.Bits.{bits, number}
 use Rattle.bits.specs.Reader.{Read}
-use Rattle.packed.specs.Items.{FieldKind, version, scale, inputs, instructions, outputs, code, constant, operand}
-use Rattle.packed.specs.Items.{width, Form, ask, entry, read}
+use Rattle.packed.specs.Items.{FieldKind, version, scale, inputs, instructions}
+use Rattle.packed.specs.Items.{outputs, code, constant, operand, centre, margin}
+use Rattle.packed.specs.Items.{twos-complement, width, Form, ask, entry, read}
 use Rattle.formulas.specs.Formula.{Formula}
 use Rattle.packed.specs.Meaning.{whole}
 
@@ -23,18 +26,20 @@ pub data Comes {A : Type 0} : Form A → List ℕ → FieldKind → List ℕ →
 abbrev pub EndsInside : FieldKind → List ℕ → Type 0
 EndsInside k cs = length cs < width k
 
--- "the version isn't 1" · "the scale is over 30" · "m, l or n is outside its limits" · "the code is 5, 6 or 7" · "a
--- constant is −2^31" · "an
--- operand or output names no permitted value"
+-- "the version isn't 1" · "the scale is over 30" · "m, l or n is outside its limits" · "the code is .. 6 or 7" · "a
+-- constant is −2^31" · "an operand or output names no permitted value" · "a reach over M", which that of −2^31 is with
+-- every margin, so that no centre is wrong by itself
 abbrev pub Wrong : FieldKind → ℕ → Type 0
 Wrong version n = n ≡ 1 → ⊥
 Wrong scale n = 30 < n
 Wrong inputs n = 16 < n
 Wrong instructions n = 512 < n
 Wrong outputs n = (n < 1) ⊎ (16 < n)
-Wrong code n = 5 ≤ n
+Wrong code n = 6 ≤ n
 Wrong constant n = n ≡ 2 ^ 31
 Wrong (operand v) n = v ≤ n
+Wrong centre n = ⊥
+Wrong (margin c) n = M < natAbs (twos-complement c) + n
 
 -- the field is there, and its number is wrong
 abbrev pub HoldsWrong : FieldKind → List ℕ → Type 0
@@ -67,4 +72,5 @@ pub data Given (s : List ℕ) : ℕ → Type 0 where
   five : Meets s code HoldsWrong → Given s 5
   six : (v : ℕ) → Meets s (operand v) HoldsWrong → Given s 6
   seven : Meets s constant HoldsWrong → Given s 7
+  seven-margin : (c : ℕ) → Meets s (margin c) HoldsWrong → Given s 7
   eight : BadlyPadded s → Given s 8

@@ -1,7 +1,7 @@
 // What the fields of an instruction make: a constant, and the instruction that a code makes of two operands.
 ghost use mathlib.Core.Path.{_≡_};
 ghost use Prim.Native.Nat.{_^_, _<_};
-ghost use Rattle.packed.specs.Format.{twos-complement};
+ghost use Rattle.packed.specs.Items.{twos-complement};
 ghost use Rattle.packed.specs.ReaderAnswers.{combined};
 use formulas::Instruction;
 

@@ -1,8 +1,9 @@
-// The instructions of a checked formula, one by one: all the fields of one come out of what is ahead of it, and nothing
-// is tested again.
+// The instructions of a checked formula, one by one: all the fields of one come out of what is ahead of it, but for a
+// margin, and nothing is tested again.
 ghost use Prim.Native.Nat.{_^_, _≤_};
 ghost use Rattle.packed.specs.Loading.{place-of, Carries};
 ghost use Rattle.packed.specs.Walk.{Readable, DecodesFrom};
+use crate::coefficient::gather;
 use crate::loaded::Loaded;
 use crate::making::combine;
 use crate::making::signed;
@@ -24,6 +25,13 @@ pub fn decode_ahead(s: &[u8], l: Loaded) -> Decoded
         return Decoded {
             instruction: Instruction::Constant(signed(constant.field)),
             next: constant.rest.place(),
+        };
+    }
+    if 5 <= code.field {
+        let both = gather(s, l);
+        return Decoded {
+            instruction: Instruction::Coefficient(both.centre, both.margin),
+            next: Cursor { at: l.at + 66 },
         };
     }
     let first = code.rest.operand();

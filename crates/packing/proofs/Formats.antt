@@ -4,15 +4,15 @@ use mathlib.Core.List.{List, [], _∷_, _++_, map, append-nil}
 use Prim.Native.Nat.{ℕ, zero, suc, _+_, _^_, _≤_, _<_}
 use native.Mathlib.Omega.{arith}
 use borrow.Author.Tests.{le-leb, ne-eqb}
-use lib.IntN.{ℤ, pos, negsuc}
+use lib.IntN.{ℤ, pos, negsuc, natAbs}
 use lib.ListN.{length}
 use Rattle.rules.specs.Numbers.{M}
 use Rattle.rules.specs.Values.{Allowed}
 use Rattle.formulas.specs.declared.Header.{Header}
 use Rattle.formulas.specs.declared.Instruction.{Instruction}
-use Rattle.formulas.specs.declared.Instruction.the-variants.{Constant, Negate, Add, Subtract, Multiply}
-use Rattle.packed.specs.Items.{scale, inputs, instructions, outputs, code, constant, operand, version, Form, done, item, _>>=_}
-use Rattle.packed.specs.Format.{header, twos-complement, by-code, instruction, several, program, results}
+use Rattle.formulas.specs.declared.Instruction.the-variants.{Constant, Negate, Add, Subtract, Multiply, Coefficient}
+use Rattle.packed.specs.Items.{scale, inputs, instructions, outputs, code, constant, operand, centre, margin, version, twos-complement, Form, done, item, _>>=_}
+use Rattle.packed.specs.Format.{header, by-code, instruction, several, program, results}
 use Rattle.packed.specs.Meaning.{body, whole}
 use Rattle.lists.specs.Each.{Each, none, one}
 use Rattle.formulas.specs.Formula.{Formula, places, InLimits, Smaller, WellFormed}
@@ -22,12 +22,12 @@ use Rattle.packed.proofs.WellFormed.{in-range}
 use Rattle.packing.specs.Raw.{raw-of}
 use Rattle.packing.specs.Slots.{Slot, encoded, slot, header-slots, instruction-slots, output-slots}
 use Rattle.packing.specs.Slots.{several-slots, program-slots, result-slots, fields-of}
-use Rattle.packing.proofs.Forms.{Fit, Asks, nothing, next, asks-bind, Tells, tells-bind, twos-complement-below}
+use Rattle.packing.proofs.Forms.{Fit, Asks, nothing, next, asks-bind, Tells, tells-bind, twos-complement-below, encoded-twos-complement}
 
 -- ---- numbers that fit
 
-fit-code : (n : ℕ) → n < 5 → Fit code (pos n)
-fit-code n l = let t = between 0 5 n (omega arith) l in record { fit = t; may = t; narrow = omega arith }
+fit-code : (n : ℕ) → n < 6 → Fit code (pos n)
+fit-code n l = let t = between 0 6 n (omega arith) l in record { fit = t; may = t; narrow = omega arith }
 
 fit-operand : (v i : ℕ) → v ≤ 1024 → i < v → Fit (operand v) (pos i)
 fit-operand v i h l = let t = between 0 v i (omega arith) l in record { fit = t; may = t; narrow = omega arith }
@@ -46,6 +46,18 @@ fit-constant (negsuc n) a = record { fit = le-leb (suc n) M a; may = rw (ne-eqb 
 pub twos-complement-encoded : (c : ℤ) → Allowed c → twos-complement (encoded c) ≡ c
 twos-complement-encoded (pos n) a = twos-complement-low n (omega arith)
 twos-complement-encoded (negsuc n) a = twos-complement-below n (omega arith)
+
+encoded-narrow : (c : ℤ) → Allowed c → encoded c < 2 ^ 32
+encoded-narrow (pos n) a = omega arith
+encoded-narrow (negsuc n) a = omega arith
+
+fit-centre : (c : ℤ) → Allowed c → Fit centre c
+fit-centre c a = record { fit = le-leb (natAbs c) M a; may = refl; narrow = encoded-narrow c a }
+
+fit-margin : (c : ℤ) (r : ℕ) → natAbs c + r ≤ M → Fit (margin (encoded c)) (pos r)
+fit-margin c r l =
+    let t = le-leb (natAbs (twos-complement (encoded c)) + r) M (rw (twos-complement-encoded c (omega arith)) l) in
+    record { fit = t; may = t; narrow = omega arith }
 
 -- ---- the format asks for the fields
 
@@ -80,6 +92,9 @@ instruction-asks v h (Negate i) l = next (fit-code 1 (omega arith)) (next (fit-o
 instruction-asks v h (Add i j) l = next (fit-code 2 (omega arith)) (next (fit-operand v i h (l .0)) (next (fit-operand v j h (l .1)) nothing))
 instruction-asks v h (Subtract i j) l = next (fit-code 3 (omega arith)) (next (fit-operand v i h (l .0)) (next (fit-operand v j h (l .1)) nothing))
 instruction-asks v h (Multiply i j) l = next (fit-code 4 (omega arith)) (next (fit-operand v i h (l .0)) (next (fit-operand v j h (l .1)) nothing))
+instruction-asks v h (Coefficient c r) l =
+    next (fit-code 5 (omega arith)) (next (fit-centre c (omega arith)) (next (fit-margin c r l)
+    (subst (λ (z : ℤ). Asks (done (Coefficient (twos-complement (encoded c)) r)) [] (Coefficient z r)) (twos-complement-encoded c (omega arith)) nothing)))
 
 several-asks : {A B : Type 0} {P : ℕ → A → Type 0} (f : ℕ → Form A) (s : ℕ → B → List Slot) (conv : A → B) (top : ℕ)
     → ((u : ℕ) → u < top → (a : A) → P u a → Asks (f u) (s u (conv a)) a)
@@ -129,18 +144,21 @@ header-tells = λ v tv lv F tF lF m tm lm l tl ll n tn ln. ap (λ (x : ℕ). slo
     is-one v h = omega arith
 
 -- one case for each code
-by-code-tells : (v c : ℕ) → c < 5 → Tells (λ ss i. slot code (pos c) ∷ ss ≡ instruction-slots v (raw-of i)) (by-code v c)
+by-code-tells : (v c : ℕ) → c < 6 → Tells (λ ss i. slot code (pos c) ∷ ss ≡ instruction-slots v (raw-of i)) (by-code v c)
 unfolding by-code
 by-code-tells v zero h = λ n t l. refl
 by-code-tells v (suc zero) h = λ i t l. refl
 by-code-tells v (suc (suc zero)) h = λ i t l j u k. refl
 by-code-tells v (suc (suc (suc zero))) h = λ i t l j u k. refl
 by-code-tells v (suc (suc (suc (suc zero)))) h = λ i t l j u k. refl
-by-code-tells v (suc (suc (suc (suc (suc c))))) h = absurd (omega arith)
+by-code-tells v (suc (suc (suc (suc (suc zero))))) h =
+    λ c t l r u k. ap (λ (n : ℕ). slot code (pos 5) ∷ slot centre (twos-complement c) ∷ slot (margin n) (pos r) ∷ [])
+    (sym (encoded-twos-complement c l))
+by-code-tells v (suc (suc (suc (suc (suc (suc c)))))) h = absurd (omega arith)
 
 instruction-tells : (v : ℕ) → Tells (λ ss i. ss ≡ instruction-slots v (raw-of i)) (instruction v)
 unfolding instruction
-instruction-tells v = λ c t l. by-code-tells v c (in-range 0 5 c t .1)
+instruction-tells v = λ c t l. by-code-tells v c (in-range 0 6 c t .1)
 
 several-tells : {A B : Type 0} (f : ℕ → Form A) (s : ℕ → B → List Slot) (conv : A → B) → ((u : ℕ) → Tells (λ ss a. ss ≡ s u (conv a)) (f u))
     → (k v : ℕ) → Tells (λ ss l. ss ≡ several-slots s v (map conv l)) (several f k v)

@@ -19,8 +19,8 @@ use Rattle.bits.specs.Reader.{Read, field}
 use Rattle.bits.proofs.Digits.{AreBits, are-bits-take, length-to-bits, number-to-bits}
 use Rattle.bits.proofs.Take.{field-got, field-whole}
 use Rattle.refusals.specs.Refusals.{refusal-number}
-use Rattle.packed.specs.Items.{FieldKind, version, scale, inputs, instructions, outputs, code, constant, operand, width, permitted, complaint, entry, Form, done, ask, read, _>>=_}
-use Rattle.packed.specs.Format.{twos-complement}
+use Rattle.packed.specs.Items.{FieldKind, version, scale, inputs, instructions, outputs, code, constant, operand, centre, margin}
+use Rattle.packed.specs.Items.{twos-complement, width, permitted, complaint, entry, Form, done, ask, read, _>>=_}
 use Rattle.packed.proofs.Instructions.{twos-complement-low, twos-complement-high}
 use Rattle.packed.proofs.FieldIn.{test-passed, passed-test}
 use Rattle.packed.proofs.WellFormed.{Passing, entry-kept}
@@ -108,7 +108,7 @@ encoded-twos-complement c l = by-sign (ltb c (2 ^ 31)) refl
         apart : c ≡ 2 ^ 32 - suc (2 ^ 32 - suc c)
         apart = omega arith
 
--- ONE CASE FOR EACH KIND
+-- one case for each kind
 width-most : (k : FieldKind) → width k ≤ 32
 width-most version = omega arith
 width-most scale = omega arith
@@ -118,6 +118,8 @@ width-most outputs = omega arith
 width-most code = omega arith
 width-most constant = omega arith
 width-most (operand v) = omega arith
+width-most centre = omega arith
+width-most (margin c) = omega arith
 
 pub encoded-meant : (k : FieldKind) (n : ℕ) → n < 2 ^ width k → encoded (stands-for k n) ≡ n
 encoded-meant k n l = by-sort (sort k)

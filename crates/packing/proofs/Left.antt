@@ -7,7 +7,7 @@ use native.Mathlib.Omega.{arith}
 use borrow.Author.Tests.{eqb-true, eq-eqb, le-leb}
 use lib.Dec.{eqb, leb}
 use lib.IntN.{ℤ, pos}
-use lib.ListN.{length, take}
+use lib.ListN.{length, take, length-map}
 use Rattle.whole.proofs.Cases.{both, down}
 use Rattle.lists.specs.Over.{over}
 use Rattle.lists.proofs.Over.{over-front}
@@ -31,7 +31,7 @@ use Rattle.packing.specs.PackAnswers.{packed-said, packed-front, Packs, 
 use Rattle.packing.specs.ReadBack.{own-seconds, ReadBack, fronts}
 use Rattle.packing.proofs.RoundTrip.{packed-read}
 use Rattle.packing.proofs.Lengths.{packed-few}
-use Rattle.packing.proofs.Packs.{pack-into-written, pack-well-formed, own-formula-of, formula-again, length-map}
+use Rattle.packing.proofs.Packs.{pack-into-written, pack-well-formed, own-formula-of, formula-again}
 
 -- ---- two outcomes of the packer are equal
 
@@ -82,7 +82,7 @@ handed-parts F m r =
     same : (f g : RawInstruction → ℤ) → eqb (length (map f (r .program))) (length (map g (r .program))) ≡ true
     same f g =
         eq-eqb (length (map f (r .program))) (length (map g (r .program)))
-        (length-map f (r .program) ∙ sym (length-map g (r .program)))
+        (length-map (r .program) f ∙ sym (length-map (r .program) g))
 
 -- ---- reading back what was packed
 
@@ -201,8 +201,8 @@ packed-what-was-read {s} {lent} {got} {h} bytes reads {old} {new} {r} room packs
         let given = raw-formula (w .holds) in
         let many = ap (λ (k : Header). k .instructions) (w .header-is) in
         λ i. record {
-          codes = (ap (take (h .instructions)) (reads .writes-codes ∙ ap (λ x. over (unpacked-front x .codes) (lent .codes)) (w .read)) ∙ over-front (parts-of given .codes) (lent .codes) (length-map (λ j. j .code) (given .program) ∙ sym many)) i;
-          firsts = (ap (take (h .instructions)) (reads .writes-firsts ∙ ap (λ x. over (unpacked-front x .firsts) (lent .firsts)) (w .read)) ∙ over-front (parts-of given .firsts) (lent .firsts) (length-map (λ j. j .first) (given .program) ∙ sym many)) i;
-          seconds = (ap (take (h .instructions)) (reads .writes-seconds ∙ ap (λ x. over (unpacked-front x .seconds) (lent .seconds)) (w .read)) ∙ over-front (parts-of given .seconds) (lent .seconds) (length-map (λ j. j .second) (given .program) ∙ sym many)) i;
+          codes = (ap (take (h .instructions)) (reads .writes-codes ∙ ap (λ x. over (unpacked-front x .codes) (lent .codes)) (w .read)) ∙ over-front (parts-of given .codes) (lent .codes) (length-map (given .program) (λ j. j .code) ∙ sym many)) i;
+          firsts = (ap (take (h .instructions)) (reads .writes-firsts ∙ ap (λ x. over (unpacked-front x .firsts) (lent .firsts)) (w .read)) ∙ over-front (parts-of given .firsts) (lent .firsts) (length-map (given .program) (λ j. j .first) ∙ sym many)) i;
+          seconds = (ap (take (h .instructions)) (reads .writes-seconds ∙ ap (λ x. over (unpacked-front x .seconds) (lent .seconds)) (w .read)) ∙ over-front (parts-of given .seconds) (lent .seconds) (length-map (given .program) (λ j. j .second) ∙ sym many)) i;
           outputs = (ap (take (h .outputs)) (reads .writes-outputs ∙ ap (λ x. over (unpacked-front x .outputs) (lent .outputs)) (w .read)) ∙ over-front (given .results) (lent .outputs) (sym (ap (λ (k : Header). k .outputs) (w .header-is)))) i;
         }

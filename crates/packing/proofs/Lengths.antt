@@ -4,17 +4,17 @@ use mathlib.Core.List.{List, [], _∷_, _++_, map}
 use Prim.Native.Nat.{ℕ, zero, suc, _+_, _*_, _≤_}
 use native.Mathlib.Omega.{arith}
 use lib.IntN.{ℤ, pos, negsuc}
-use lib.ListN.{length, length-append}
+use lib.ListN.{length, length-append, length-map}
 use Rattle.bits.specs.Bits.{to-bits}
 use Rattle.bits.proofs.Digits.{length-to-bits}
 use Rattle.writing.specs.Bytes.{whole-bytes}
 use Rattle.writing.proofs.Bits.{length-bytes-of}
 use Rattle.formulas.specs.Formula.{Formula, places, WellFormed}
 use Rattle.packed.specs.Items.{width}
+use Rattle.packed.specs.Format.{widest}
 use Rattle.packing.specs.Raw.{RawInstruction, raw, raw-of}
 use Rattle.packing.specs.Slots.{Slot, encoded, instruction-slots, output-slots, several-slots}
 use Rattle.packing.specs.Slots.{program-slots, result-slots, fields-of, slots-bits, slots-width, packed-bytes}
-use Rattle.packing.proofs.Packs.{length-map}
 
 pub length-slots-bits : (ss : List Slot) → length (slots-bits ss) ≡ slots-width ss
 length-slots-bits [] = refl
@@ -26,17 +26,17 @@ pub width-append : (ss ts : List Slot) → slots-width (ss ++ ts) ≡ slots-widt
 width-append [] ts = omega arith
 width-append (s ∷ ss) ts = omega (arith, width-append ss ts)
 
--- no instruction takes more bits than a constant with a margin will
-pub instruction-wide : (v : ℕ) (c a b : ℤ) → slots-width (instruction-slots v (raw c a b)) ≤ 66
+pub instruction-wide : (v : ℕ) (c a b : ℤ) → slots-width (instruction-slots v (raw c a b)) ≤ widest
 instruction-wide v (pos zero) a b = omega arith
 instruction-wide v (pos (suc zero)) a b = omega arith
 instruction-wide v (pos (suc (suc zero))) a b = omega arith
 instruction-wide v (pos (suc (suc (suc zero)))) a b = omega arith
 instruction-wide v (pos (suc (suc (suc (suc zero))))) a b = omega arith
-instruction-wide v (pos (suc (suc (suc (suc (suc k)))))) a b = omega arith
+instruction-wide v (pos (suc (suc (suc (suc (suc zero)))))) a b = omega arith
+instruction-wide v (pos (suc (suc (suc (suc (suc (suc k))))))) a b = omega arith
 instruction-wide v (negsuc k) a b = omega arith
 
-pub program-wide : (m : ℕ) (rs : List RawInstruction) → slots-width (program-slots m rs) ≤ 66 * length rs
+pub program-wide : (m : ℕ) (rs : List RawInstruction) → slots-width (program-slots m rs) ≤ widest * length rs
 program-wide m [] = omega arith
 program-wide m (r ∷ rs) =
     omega (
@@ -66,8 +66,8 @@ packed-few f w =
       width-append program results,
       program-wide (f .header .inputs) (map raw-of (f .program)),
       results-wide (places (f .header)) 0 (map pos (f .results)),
-      length-map raw-of (f .program),
-      length-map pos (f .results),
+      length-map (f .program) raw-of,
+      length-map (f .results) pos,
       w .program-long,
       w .results-long,
       w .limits .instructions-few,

@@ -4,26 +4,23 @@ use mathlib.Core.Bool.{Bool, true, false, cond}
 use mathlib.Core.List.{List, [], _∷_, _++_}
 use mathlib.Core.Logic.{inl, inr, _↔_}
 use Prim.Native.Nat.{ℕ}
-use native.Mathlib.Omega.{arith}
 use borrow.Author.Tests.{leb-false, lt-leb}
 use lib.Dec.{leb}
 use lib.IntN.{ℤ, pos, negsuc, natAbs}
 use lib.ListN.{length}
+use Rattle.whole.proofs.Cases.{never}
 use Rattle.refusals.specs.Refusals.{refusal-number}
 use Rattle.refusals.specs.Answer.{Answer, value, refused, refuse, then}
 use Rattle.refusals.proofs.Answers.{no-value, refused-same}
 use Rattle.rules.specs.Numbers.{M}
 use Rattle.formulas.specs.Formula.{Formula}
-use Rattle.packed.specs.Items.{FieldKind, version, scale, inputs, instructions, outputs, code, constant, operand, complaint}
+use Rattle.packed.specs.Items.{FieldKind, version, scale, inputs, instructions, outputs, code, constant, operand, centre, margin, complaint}
 use Rattle.packed.proofs.GivenExactly.{wrong-is, wrong-not-permitted}
 use Rattle.packing.specs.Raw.{RawFormula, formula-of}
 use Rattle.packing.specs.Slots.{Slot, slot, raw-slots, packed-bytes}
 use Rattle.packing.specs.Packing.{Sort, fixed, natural, signed, sort, fits-as, fits, slots-tested, pack, pack-into}
 use Rattle.packing.specs.GivenInPacking.{UnfitAs, Unfit, MeetsUnfit, GivenInPacking}
-use Rattle.packing.specs.GivenInPacking.{three, four, five, six, seven, ten}
-
-clash : true ≡ false → ⊥
-clash q = let y : _≡_ {A = ℕ} 0 1 = cc in omega arith
+use Rattle.packing.specs.GivenInPacking.{three, four, five, six, seven, seven-margin, ten}
 
 -- ---- a number is unfit exactly where it does not fit
 
@@ -31,7 +28,7 @@ pub unfit-is : (k : FieldKind) (z : ℤ) → fits k z ≡ false → Unfit k z
 unfit-is k z e = by-sort (sort k) z e
   where
     by-sort : (s : Sort) (z : ℤ) → fits-as s k z ≡ false → UnfitAs s k z
-    by-sort fixed z e = clash e
+    by-sort fixed z e = never e
     by-sort natural (pos n) e = wrong-is k n e
     by-sort natural (negsuc n) e = tt
     by-sort signed z e = leb-false (natAbs z) M e
@@ -120,7 +117,9 @@ module _ (room : ℕ) (r : RawFormula) where
   given-refused (four (inr (inr m))) = short (meets-refused r m)
   given-refused (five m) = short (meets-refused r m)
   given-refused (six v m) = short (meets-refused r m)
-  given-refused (seven m) = short (meets-refused r m)
+  given-refused (seven (inl m)) = short (meets-refused r m)
+  given-refused (seven (inr m)) = short (meets-refused r m)
+  given-refused (seven-margin c m) = short (meets-refused r m)
   given-refused (ten l) = no-room (l .packs) (lt-leb (length (packed-bytes (l .accepted))) room (l .longer))
 
   of-kind : {n : ℕ} (k : FieldKind) → MeetsUnfit r k → refusal-number (complaint k) ≡ n → GivenInPacking room r n
@@ -130,7 +129,9 @@ module _ (room : ℕ) (r : RawFormula) where
   of-kind instructions m e = subst (GivenInPacking room r) e (four (inr (inl m)))
   of-kind outputs m e = subst (GivenInPacking room r) e (four (inr (inr m)))
   of-kind code m e = subst (GivenInPacking room r) e (five m)
-  of-kind constant m e = subst (GivenInPacking room r) e (seven m)
+  of-kind constant m e = subst (GivenInPacking room r) e (seven (inl m))
+  of-kind centre m e = subst (GivenInPacking room r) e (seven (inr m))
+  of-kind (margin c) m e = subst (GivenInPacking room r) e (seven-margin c m)
   of-kind (operand v) m e = subst (GivenInPacking room r) e (six v m)
 
   tested-given : {n : ℕ} → slots-tested (raw-slots r) ≡ refused n → GivenInPacking room r n

@@ -8,12 +8,14 @@ use native.Mathlib.Omega.{arith}
 use borrow.Author.Tests.{leb-true}
 use lib.Dec.{leb}
 use lib.IntN.{ℤ, pos, negsuc, natAbs}
-use lib.ListN.{length}
+use lib.ListN.{length, length-map}
+use Rattle.whole.proofs.Cases.{never}
 use Rattle.rules.specs.Numbers.{M}
 use Rattle.refusals.specs.Answer.{Answer, value, refused, refuse, then}
 use Rattle.formulas.specs.declared.Instruction.{Instruction}
-use Rattle.formulas.specs.declared.Instruction.the-variants.{Constant, Negate, Add, Subtract, Multiply}
-use Rattle.packed.specs.Items.{FieldKind, scale, inputs, instructions, outputs, code, operand, permitted, complaint}
+use Rattle.formulas.specs.declared.Instruction.the-variants.{Constant, Negate, Add, Subtract, Multiply, Coefficient}
+use Rattle.packed.specs.Items.{FieldKind, scale, inputs, instructions, outputs, code, operand, margin, twos-complement, permitted}
+use Rattle.packed.specs.Items.{complaint}
 use Rattle.lists.specs.Each.{Each, none, one}
 use Rattle.formulas.specs.Formula.{Formula, Smaller, WellFormed}
 use Rattle.packed.specs.Meaning.{formula}
@@ -22,16 +24,13 @@ use Rattle.refusals.proofs.Answers.{no-value, same-value, first-of}
 use Rattle.packing.specs.Raw.{RawInstruction, RawFormula, raw, count, raw-of, raw-formula, made-of}
 use Rattle.packing.specs.Raw.{instruction-of, formula-of, own-second, own, own-formula}
 use Rattle.writing.specs.Bytes.{AreBytes}
-use Rattle.packing.specs.Slots.{Slot, slot, header-slots, argument-slots, instruction-slots, output-slots}
+use Rattle.packing.specs.Slots.{Slot, encoded, slot, header-slots, argument-slots, instruction-slots, output-slots}
 use Rattle.packing.specs.Slots.{several-slots}
 use Rattle.packing.specs.Slots.{program-slots, result-slots, raw-slots, fields-of, packed-bytes}
 use Rattle.packing.specs.Packing.{natural, fits-as, fits, slots-tested, pack, pack-into}
 use Rattle.packing.proofs.Forms.{asked-tested}
-use Rattle.packing.proofs.Formats.{whole-asks}
+use Rattle.packing.proofs.Formats.{twos-complement-encoded, whole-asks}
 use Rattle.packing.proofs.RoundTrip.{read-packed, packed-are}
-
-clash : false ≡ true → ⊥
-clash z = let y : _≡_ {A = ℕ} 0 1 = cc in omega arith
 
 -- ---- fields that all passed
 
@@ -64,7 +63,7 @@ pub record IsNatural (k : FieldKind) (z : ℤ) : Type 0 where
 
 pub is-natural : (k : FieldKind) (z : ℤ) → fits-as natural k z ≡ true → IsNatural k z
 is-natural k (pos n) e = record { is = refl; may = e }
-is-natural k (negsuc n) e = absurd (clash e)
+is-natural k (negsuc n) e = never (sym e)
 
 -- an instruction whose fields passed is well formed, and handed over it is what was handed over: one case for each code
 pub record Makes (v : ℕ) (c a b : ℤ) : Type 0 where
@@ -93,8 +92,17 @@ made-makes v (pos (suc (suc (suc (suc zero))))) a b h =
       smaller = (below v a (h .1 .0), below v b (h .1 .1 .0));
       again = ap₂ (raw (pos 4)) (is-natural (operand v) a (h .1 .0) .is) (is-natural (operand v) b (h .1 .1 .0) .is);
     }
-made-makes v (pos (suc (suc (suc (suc (suc k)))))) a b h = absurd (let l = in-range 0 5 (suc (suc (suc (suc (suc k))))) (h .0) .1 in omega arith)
-made-makes v (negsuc k) a b h = absurd (clash (h .0))
+made-makes v (pos (suc (suc (suc (suc (suc zero)))))) a b h =
+    let q = is-natural (margin (encoded a)) b (h .1 .1 .0) in
+    record {
+      smaller =
+          subst (λ (z : ℤ). natAbs z + natAbs b ≤ M) (twos-complement-encoded a (leb-true (natAbs a) M (h .1 .0)))
+          (leb-true (natAbs (twos-complement (encoded a)) + natAbs b) M (q .may));
+      again = ap (raw (pos 5) a) (q .is);
+    }
+made-makes v (pos (suc (suc (suc (suc (suc (suc k))))))) a b h =
+    absurd (let l = in-range 0 6 (suc (suc (suc (suc (suc (suc k)))))) (h .0) .1 in omega arith)
+made-makes v (negsuc k) a b h = never (sym (h .0))
 
 program-makes : (v : ℕ) (rs : List RawInstruction) → AllFit (program-slots v rs) → Each Smaller v (map instruction-of rs) × (map raw-of (map instruction-of rs) ≡ map own rs)
 program-makes v [] h = (none, refl)
@@ -109,10 +117,6 @@ results-make v j [] h = (none, refl)
 results-make v j (o ∷ os) h =
     let more = results-make v (suc j) os (h .1) in
     (one (below v o (h .0)) (more .0), ap₂ (λ (x : ℤ) (xs : List ℤ). x ∷ xs) (is-natural (operand v) o (h .0) .is) (more .1))
-
-pub length-map : {A B : Type 0} (f : A → B) (l : List A) → length (map f l) ≡ length l
-length-map f [] = refl
-length-map f (a ∷ l) = ap suc (length-map f l)
 
 map-same : {A B : Type 0} (f g : A → B) → ((a : A) → f a ≡ g a) → (l : List A) → map f l ≡ map g l
 map-same f g h [] = refl
@@ -142,7 +146,7 @@ own-makes [] = refl
 own-makes (r ∷ rs) = ap₂ (λ (x : Instruction) (xs : List Instruction). x ∷ xs) (own-made (r .code) (r .first) (r .second)) (own-makes rs)
 
 own-count : (r : RawFormula) → count (own-formula r) ≡ count r
-own-count r = ap (λ (n : ℕ). cond (r .as-long) (pos n) (negsuc 0)) (length-map own (r .program))
+own-count r = ap (λ (n : ℕ). cond (r .as-long) (pos n) (negsuc 0)) (length-map (r .program) own)
 
 pub own-raw-slots : (r : RawFormula) → raw-slots (own-formula r) ≡ raw-slots r
 unfolding raw-slots
@@ -150,7 +154,7 @@ own-raw-slots r =
     λ i.
     header-slots (r .scale) (r .inputs) (own-count r i) (length (r .results))
     ++ (own-program (natAbs (r .inputs)) (r .program) i
-    ++ result-slots (natAbs (r .inputs) + length-map own (r .program) i) (r .results))
+    ++ result-slots (natAbs (r .inputs) + length-map (r .program) own i) (r .results))
 
 pub own-formula-of : (r : RawFormula) → formula-of (own-formula r) ≡ formula-of r
 own-formula-of r =
@@ -159,7 +163,7 @@ own-formula-of r =
           record {
             scale = natAbs (r .scale);
             inputs = natAbs (r .inputs);
-            instructions = length-map own (r .program) i;
+            instructions = length-map (r .program) own i;
             outputs = length (r .results);
           };
       program = own-makes (r .program) i;
@@ -186,7 +190,7 @@ counted r e = by-lists (r .as-long) e
     by-lists : (t : Bool) → fits instructions (cond t (pos (length (r .program))) (negsuc 0)) ≡ true
         → (t ≡ true) × (permitted instructions (length (r .program)) ≡ true)
     by-lists true e = (refl, e)
-    by-lists false e = absurd (clash e)
+    by-lists false e = never (sym e)
 
 pub fit-accepted : (r : RawFormula) → AllFit (raw-slots r) → Accepted r (formula-of r)
 unfolding raw-slots fields-of
@@ -229,9 +233,9 @@ fit-accepted r h = record { well-formed = formed; same = again; fields = slots }
                 some-output = in-range 1 17 (length (r .results)) (h .1 .1 .1 .1 .0) .0;
                 outputs-few = omega (arith, in-range 1 17 (length (r .results)) (h .1 .1 .1 .1 .0));
               };
-          program-long = length-map instruction-of (r .program);
+          program-long = length-map (r .program) instruction-of;
           operands-smaller = the-program .0;
-          results-long = length-map natAbs (r .results);
+          results-long = length-map (r .results) natAbs;
           results-below = the-results .0;
         }
 
@@ -278,6 +282,7 @@ made-raw (Negate i) = refl
 made-raw (Add i j) = refl
 made-raw (Subtract i j) = refl
 made-raw (Multiply i j) = refl
+made-raw (Coefficient c r) = refl
 
 program-again : (is : List Instruction) → map instruction-of (map raw-of is) ≡ is
 program-again [] = refl
@@ -294,7 +299,7 @@ well-formed-slots f w =
     header-slots (pos (f .header .scale)) (pos (f .header .inputs)) (pos l) n
     ++ (program-slots (f .header .inputs) (map raw-of (f .program))
     ++ result-slots (f .header .inputs + l) (map pos (f .results))))
-    (length-map raw-of (f .program) ∙ w .program-long) (length-map pos (f .results) ∙ w .results-long)
+    (length-map (f .program) raw-of ∙ w .program-long) (length-map (f .results) pos ∙ w .results-long)
 
 pub formula-again : (f : Formula) → WellFormed f → formula-of (raw-formula f) ≡ f
 formula-again f w =
@@ -303,8 +308,8 @@ formula-again f w =
           record {
             scale = f .header .scale;
             inputs = f .header .inputs;
-            instructions = (length-map raw-of (f .program) ∙ w .program-long) i;
-            outputs = (length-map pos (f .results) ∙ w .results-long) i;
+            instructions = (length-map (f .program) raw-of ∙ w .program-long) i;
+            outputs = (length-map (f .results) pos ∙ w .results-long) i;
           };
       program = program-again (f .program) i;
       results = results-again (f .results) i;

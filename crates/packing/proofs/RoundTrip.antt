@@ -5,10 +5,10 @@ use mathlib.Core.List.{List, [], _∷_, _++_}
 use mathlib.Core.Logic.{_↔_}
 use Prim.Native.Nat.{ℕ, _<_}
 use native.Mathlib.Nat.{mod-lt}
-use native.Mathlib.Omega.{arith}
 use borrow.Author.Tests.{ltb-true, lt-ltb, eqb-true}
 use lib.Dec.{ltb, eqb, lit<}
 use lib.ListN.{length, replicate, length-replicate}
+use Rattle.whole.proofs.Cases.{never}
 use Rattle.refusals.specs.Answer.{Answer, value, refused, then}
 use Rattle.bits.specs.Bits.{bits, number}
 use Rattle.bits.specs.Reader.{Read}
@@ -43,12 +43,9 @@ padding-zeros : {bs : List ℕ} → AreBits bs → is-padding bs ≡ true → (l
 unfolding is-padding
 padding-zeros {bs} p e = by-long (ltb (length bs) 8) refl
   where
-    clash : false ≡ true → ⊥
-    clash z = let y : _≡_ {A = ℕ} 0 1 = cc in omega arith
-
     by-long : (t : Bool) → ltb (length bs) 8 ≡ t → (length bs < 8) × (bs ≡ replicate (length bs) 0)
     by-long true u = (ltb-true (length bs) 8 u, all-zeros p (eqb-true (number bs) 0 (sym (ap (λ (t : Bool). t && eqb (number bs) 0) u) ∙ e)))
-    by-long false u = absurd (clash (sym (ap (λ (t : Bool). t && eqb (number bs) 0) u) ∙ e))
+    by-long false u = never (sym e ∙ ap (λ (t : Bool). t && eqb (number bs) 0) u)
 
 -- ---- the two halves
 

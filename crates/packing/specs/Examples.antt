@@ -21,12 +21,15 @@ example-at F m os = handed F m (parts (pos 4 ∷ pos 2 ∷ []) (pos 0 ∷ pos 2 
 abbrev file : List ℕ
 file = 0x02 ∷ 0x41 ∷ 0x00 ∷ 0x41 ∷ 0x80 ∷ 0x00 ∷ 0x02 ∷ 0x80 ∷ 0x20 ∷ 0x00 ∷ 0x03 ∷ []
 
--- one instruction on two inputs, its own value the output; and one on none
+-- one instruction on two inputs, its own value the output; a constant on none; and one with a margin
 abbrev one-step : ℤ → ℤ → ℤ → RawFormula
 one-step c a b = handed (pos 4) (pos 2) (parts (c ∷ []) (a ∷ []) (b ∷ []) (pos 2 ∷ []))
 
 abbrev one-constant : ℤ → RawFormula
 one-constant c = handed (pos 0) (pos 0) (parts (pos 0 ∷ []) (c ∷ []) (pos 9 ∷ []) (pos 0 ∷ []))
+
+abbrev one-coefficient : ℤ → ℤ → RawFormula
+one-coefficient c r = handed (pos 4) (pos 0) (parts (pos 5 ∷ []) (c ∷ []) (r ∷ []) (pos 0 ∷ []))
 
 abbrev pub pack-examples : List PackExample
 pack-examples =
@@ -39,7 +42,7 @@ pack-examples =
     ∷ example 11 (example-at (pos 31) (pos 17) []) (refused 3)
     ∷ example 11 (example-at (negsuc 0) (pos 2) (pos 3 ∷ [])) (refused 3)
     ∷ example 11 (handed (pos 4) (pos 2) (parts (pos 7 ∷ []) [] (pos 0 ∷ []) (pos 9 ∷ []))) (refused 4)
-    ∷ example 11 (one-step (pos 7) (pos 0) (pos 1)) (refused 5)
+    ∷ example 11 (one-step (pos 6) (pos 0) (pos 1)) (refused 5)
     ∷ example 11 (one-step (negsuc 0) (pos 9) (pos 9)) (refused 5)
     ∷ example 11 (one-step (pos 1) (pos 2) (pos 0)) (refused 6)
     ∷ example 11 (one-step (pos 3) (pos 1) (pos 2)) (refused 6)
@@ -51,4 +54,17 @@ pack-examples =
     ∷ example 11 (one-constant (negsuc 2147483646))
     (value (0x02 ∷ 0x00 ∷ 0x00 ∷ 0x21 ∷ 0x10 ∷ 0x00 ∷ 0x00 ∷ 0x00 ∷ 0x20 ∷ 0x00 ∷ []))
     ∷ example 11 (one-constant (negsuc 2147483647)) (refused 7)
+    ∷ example 14 (one-coefficient (pos 2) (pos 1))
+    (value (0x02 ∷ 0x40 ∷ 0x00 ∷ 0x21 ∷ 0xA0 ∷ 0x00 ∷ 0x00 ∷ 0x00 ∷ 0x40 ∷ 0x00 ∷ 0x00 ∷ 0x00 ∷ 0x40 ∷ 0x00 ∷ []))
+    ∷ example 14 (one-coefficient (pos 2147483646) (pos 1))
+    (value (0x02 ∷ 0x40 ∷ 0x00 ∷ 0x21 ∷ 0xAF ∷ 0xFF ∷ 0xFF ∷ 0xFF ∷ 0xC0 ∷ 0x00 ∷ 0x00 ∷ 0x00 ∷ 0x40 ∷ 0x00 ∷ []))
+    ∷ example 14 (one-coefficient (negsuc 2147483646) (pos 0))
+    (value (0x02 ∷ 0x40 ∷ 0x00 ∷ 0x21 ∷ 0xB0 ∷ 0x00 ∷ 0x00 ∷ 0x00 ∷ 0x20 ∷ 0x00 ∷ 0x00 ∷ 0x00 ∷ 0x00 ∷ 0x00 ∷ []))
+    ∷ example 14 (one-coefficient (pos 0) (pos 2147483647))
+    (value (0x02 ∷ 0x40 ∷ 0x00 ∷ 0x21 ∷ 0xA0 ∷ 0x00 ∷ 0x00 ∷ 0x00 ∷ 0x1F ∷ 0xFF ∷ 0xFF ∷ 0xFF ∷ 0xC0 ∷ 0x00 ∷ []))
+    ∷ example 14 (one-coefficient (pos 2147483647) (pos 1)) (refused 7)
+    ∷ example 14 (one-coefficient (negsuc 2147483647) (pos 0)) (refused 7)
+    ∷ example 14 (one-coefficient (pos 2) (negsuc 0)) (refused 7)
+    ∷ example 14 (one-coefficient (pos 4294967297) (pos 1)) (refused 7)
+    ∷ example 13 (one-coefficient (pos 2) (pos 1)) (refused 10)
     ∷ []

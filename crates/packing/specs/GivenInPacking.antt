@@ -9,14 +9,15 @@ use Rattle.refusals.specs.Answer.{value}
 use Rattle.rules.specs.Numbers.{M}
 use Rattle.formulas.specs.Formula.{Formula}
 use Rattle.formulas.specs.GivenInRuns.{OneUnder}
-use Rattle.packed.specs.Items.{FieldKind, scale, inputs, instructions, outputs, code, constant, operand}
+use Rattle.packed.specs.Items.{FieldKind, scale, inputs, instructions, outputs, code, constant, operand, centre, margin}
 use Rattle.packed.specs.Meaning.{formula}
 use Rattle.packed.specs.Given.{Wrong, Given}
 use Rattle.packing.specs.Raw.{RawFormula, Parts}
 use Rattle.packing.specs.Slots.{Slot, slot, raw-slots, packed-bytes}
 use Rattle.packing.specs.Packing.{Sort, fixed, natural, signed, sort, slots-tested, pack}
 
--- below 0, or wrong as document 01 says; a constant that is −2^31 or that 32 bits can't hold has a size over M
+-- below 0, or wrong as the reader says; a constant or a centre that is −2^31 or that 32 bits can't hold has a size over
+-- M
 abbrev pub UnfitAs : Sort → FieldKind → ℤ → Type 0
 UnfitAs fixed k z = ⊥
 UnfitAs natural k (pos n) = Wrong k n
@@ -47,7 +48,8 @@ pub data GivenInPacking (room : ℕ) (r : RawFormula) : ℕ → Type 0 where
   four : MeetsUnfit r inputs ⊎ (MeetsUnfit r instructions ⊎ MeetsUnfit r outputs) → GivenInPacking room r 4
   five : MeetsUnfit r code → GivenInPacking room r 5
   six : (v : ℕ) → MeetsUnfit r (operand v) → GivenInPacking room r 6
-  seven : MeetsUnfit r constant → GivenInPacking room r 7
+  seven : MeetsUnfit r constant ⊎ MeetsUnfit r centre → GivenInPacking room r 7
+  seven-margin : (c : ℕ) → MeetsUnfit r (margin c) → GivenInPacking room r 7
   ten : TooLong room r → GivenInPacking room r 10
 
 -- "10 for a short list": one has fewer places than there are instructions, or than there are outputs

@@ -9,7 +9,8 @@ use Rattle.refusals.specs.declared.Refusal.the-variants as refusal
 use Rattle.refusals.specs.Answer.{Answer, value, refuse, then}
 use Rattle.rules.specs.Numbers.{M}
 use Rattle.formulas.specs.Formula.{Formula}
-use Rattle.packed.specs.Items.{FieldKind, version, scale, inputs, instructions, outputs, code, constant, operand}
+use Rattle.packed.specs.Items.{FieldKind, version, scale, inputs, instructions}
+use Rattle.packed.specs.Items.{outputs, code, constant, operand, centre, margin}
 use Rattle.packed.specs.Items.{permitted, complaint}
 use Rattle.packing.specs.Raw.{RawFormula, formula-of}
 use Rattle.packing.specs.Slots.{Slot, raw-slots, packed-bytes}
@@ -27,9 +28,11 @@ sort outputs = natural
 sort code = natural
 sort constant = signed
 sort (operand v) = natural
+sort centre = signed
+sort (margin c) = natural
 
 -- what a field may be given: a number from 0 on that the reader permits; or one whose size is at most M, "7 also for a
--- constant that 32 bits can't hold", and for −2^31
+-- constant that 32 bits can't hold", and for −2^31; a margin that is permitted makes a reach of at most M
 abbrev pub fits-as : Sort → FieldKind → ℤ → Bool
 fits-as fixed k z = true
 fits-as natural k (pos n) = permitted k n

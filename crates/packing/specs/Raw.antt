@@ -2,12 +2,12 @@
 -- are permitted.
 use mathlib.Core.Bool.{Bool, true, cond, _&&_}
 use mathlib.Core.List.{List, [], _∷_, map}
-use Prim.Native.Nat.{zero, suc}
+use Prim.Native.Nat.{ℕ, zero, suc}
 use lib.Dec.{eqb}
 use lib.IntN.{ℤ, pos, negsuc, natAbs}
 use lib.ListN.{length}
 use Rattle.formulas.specs.declared.Instruction.{Instruction}
-use Rattle.formulas.specs.declared.Instruction.the-variants.{Constant, Negate, Add, Subtract, Multiply}
+use Rattle.formulas.specs.declared.Instruction.the-variants.{Constant, Negate, Add, Subtract, Multiply, Coefficient}
 use Rattle.formulas.specs.Formula.{Formula}
 
 -- an instruction, "just the fields its code has": a code with one field leaves the second alone
@@ -29,8 +29,11 @@ abbrev pub raw : ℤ → ℤ → ℤ → RawInstruction
 raw c a b = record { code = c; first = a; second = b }
 
 -- l; lists of different lengths name no number of instructions, and a number below 0 stands for none
+abbrev pub number-of : Bool → ℕ → ℤ
+number-of as-long l = cond as-long (pos l) (negsuc 0)
+
 abbrev pub count : RawFormula → ℤ
-count r = cond (r .as-long) (pos (length (r .program))) (negsuc 0)
+count r = number-of (r .as-long) (length (r .program))
 
 -- ---- held "as readings are, one list a part"
 
@@ -42,6 +45,10 @@ pub record Parts : Type 0 where
 
 abbrev pub parts : List ℤ → List ℤ → List ℤ → List ℤ → Parts
 parts codes firsts seconds outputs = record { codes = codes; firsts = firsts; seconds = seconds; outputs = outputs }
+
+-- lists of these lengths are as long as one another
+abbrev pub same-lengths : ℕ → ℕ → ℕ → Bool
+same-lengths codes firsts seconds = eqb codes firsts && eqb codes seconds
 
 -- as far as all three go
 abbrev pub instructions-of : List ℤ → List ℤ → List ℤ → List RawInstruction
@@ -56,7 +63,7 @@ handed F m p =
       scale = F;
       inputs = m;
       program = instructions-of (p .codes) (p .firsts) (p .seconds);
-      as-long = eqb (length (p .codes)) (length (p .firsts)) && eqb (length (p .codes)) (length (p .seconds));
+      as-long = same-lengths (length (p .codes)) (length (p .firsts)) (length (p .seconds));
       results = p .outputs;
     }
 
@@ -77,6 +84,7 @@ raw-of (Negate i) = raw (pos 1) (pos i) (pos 0)
 raw-of (Add i j) = raw (pos 2) (pos i) (pos j)
 raw-of (Subtract i j) = raw (pos 3) (pos i) (pos j)
 raw-of (Multiply i j) = raw (pos 4) (pos i) (pos j)
+raw-of (Coefficient c r) = raw (pos 5) c (pos r)
 
 abbrev pub raw-formula : Formula → RawFormula
 raw-formula f =
@@ -96,7 +104,8 @@ made-of (pos zero) a b = Constant a
 made-of (pos (suc zero)) a b = Negate (natAbs a)
 made-of (pos (suc (suc zero))) a b = Add (natAbs a) (natAbs b)
 made-of (pos (suc (suc (suc zero)))) a b = Subtract (natAbs a) (natAbs b)
-made-of (pos (suc (suc (suc (suc k))))) a b = Multiply (natAbs a) (natAbs b)
+made-of (pos (suc (suc (suc (suc zero))))) a b = Multiply (natAbs a) (natAbs b)
+made-of (pos (suc (suc (suc (suc (suc k)))))) a b = Coefficient a (natAbs b)
 made-of (negsuc k) a b = Constant a
 
 abbrev pub instruction-of : RawInstruction → Instruction

@@ -7,7 +7,8 @@ use lib.ListN.{length}
 use Rattle.bits.specs.Bits.{to-bits}
 use Rattle.writing.specs.Bytes.{bytes-of}
 use Rattle.formulas.specs.Formula.{Formula, places}
-use Rattle.packed.specs.Items.{FieldKind, version, scale, inputs, instructions, outputs, code, constant, operand, width}
+use Rattle.packed.specs.Items.{FieldKind, version, scale, inputs, instructions, outputs}
+use Rattle.packed.specs.Items.{code, constant, operand, centre, margin, width}
 use Rattle.packing.specs.Raw.{RawInstruction, RawFormula, count, raw-of}
 
 -- as a field holds it: "in two's complement" of 32 bits; a number from 0 on is itself
@@ -35,7 +36,8 @@ argument-slots v (pos (suc zero)) a b = slot (operand v) a ∷ []
 argument-slots v (pos (suc (suc zero))) a b = slot (operand v) a ∷ slot (operand v) b ∷ []
 argument-slots v (pos (suc (suc (suc zero)))) a b = slot (operand v) a ∷ slot (operand v) b ∷ []
 argument-slots v (pos (suc (suc (suc (suc zero))))) a b = slot (operand v) a ∷ slot (operand v) b ∷ []
-argument-slots v (pos (suc (suc (suc (suc (suc k)))))) a b = []
+argument-slots v (pos (suc (suc (suc (suc (suc zero)))))) a b = slot centre a ∷ slot (margin (encoded a)) b ∷ []
+argument-slots v (pos (suc (suc (suc (suc (suc (suc k))))))) a b = []
 argument-slots v (negsuc k) a b = []
 
 abbrev pub instruction-slots : ℕ → RawInstruction → List Slot

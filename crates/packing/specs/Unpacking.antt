@@ -14,12 +14,14 @@ use Rattle.packing.specs.Raw.{RawFormula, Parts, raw-formula}
 unfoldable pub unpack : List ℕ → Answer RawFormula
 unpack s = then (formula s) (λ f. value (raw-formula f))
 
--- a place for each instruction in each of its lists, and one for each output
+-- lists of these lengths have a place for each instruction, and for each output
+abbrev pub placed : Header → ℕ → ℕ → ℕ → ℕ → Bool
+placed h codes firsts seconds outputs =
+    leb (h .instructions) codes
+    && (leb (h .instructions) firsts && (leb (h .instructions) seconds && leb (h .outputs) outputs))
+
 abbrev pub has-places : Header → Parts → Bool
-has-places h p =
-    leb (h .instructions) (length (p .codes))
-    && (leb (h .instructions) (length (p .firsts))
-    && (leb (h .instructions) (length (p .seconds)) && leb (h .outputs) (length (p .outputs))))
+has-places h p = placed h (length (p .codes)) (length (p .firsts)) (length (p .seconds)) (length (p .outputs))
 
 -- "then 10 for a short list"
 unfoldable pub unpack-into : Parts → List ℕ → Answer RawFormula

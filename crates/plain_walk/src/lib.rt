@@ -37,6 +37,7 @@ fn step(scale: u32, i: Instruction, values: &[i64], made: usize) -> PlainStep
             value_at(values, a, made),
             value_at(values, b, made),
         ),
+        Instruction::Coefficient(c, _) => steps::constant(c),
     }
 }
 

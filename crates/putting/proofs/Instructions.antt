@@ -23,7 +23,7 @@ use Rattle.packing.specs.Raw.{raw}
 use Rattle.packing.specs.Slots.{Slot, slot, encoded, instruction-slots, slots-bits, slots-width}
 use Rattle.packing.specs.Packing.{fits}
 use Rattle.packing.proofs.Packs.{AllFit, tested-all, is-natural, below}
-use Rattle.fitting.proofs.Tests.{fits-code, Code, none-named, one-named, two-named, code-of, two-arguments}
+use Rattle.fitting.proofs.Tests.{fits-code, Code, none-named, one-named, two-named, with-margin, code-of, two-arguments}
 use Rattle.putting.specs.Putting.{PutsSlots, InstructionPuttable, PutsInstruction}
 use Rattle.putting.proofs.Puttings.{slots-put, slots-then}
 
@@ -45,7 +45,7 @@ two-fields c x y l k =
 pub low-operand : {v : ℕ} {z : ℤ} → v ≤ 1024 → natAbs z < v → pos (natAbs z) ≡ z → encoded z < 2 ^ 10
 low-operand {v} {z} l h e = subst (λ (x : ℤ). encoded x < 2 ^ 10) e (omega arith)
 
-encoded-allowed : (z : ℤ) → Allowed z → encoded z < 2 ^ 32
+pub encoded-allowed : (z : ℤ) → Allowed z → encoded z < 2 ^ 32
 encoded-allowed (pos n) a = omega arith
 encoded-allowed (negsuc n) a = omega arith
 
@@ -64,18 +64,19 @@ record Two (c a b : ℤ) (v : ℕ) (w : Writer) (out : List ℕ) : Type 0 where
   alike : (u : ℕ) → instruction-slots u (raw c a b) ≡ slot code c ∷ slot (operand u) a ∷ slot (operand u) b ∷ []
 
 two-of : (a b : ℤ) (v : ℕ) (w : Writer) (out : List ℕ) {c : ℤ} → Code c → (encoded c ≡ 0 → ⊥) → (encoded c ≡ 1 → ⊥)
-    → AllFit (instruction-slots v (raw c a b))
+    → (encoded c ≡ 5 → ⊥) → AllFit (instruction-slots v (raw c a b))
     → 8 * w .at + w .count + slots-width (instruction-slots v (raw c a b)) ≤ 8 * length out → Two c a b v w out
-two-of a b v w out none-named e d h l = absurd (e refl)
-two-of a b v w out one-named e d h l = absurd (d refl)
-two-of a b v w out (two-named {n} l k) e d h r =
-    let f = subst AllFit (two-arguments v n a b l k) (h .1) in
+two-of a b v w out none-named e d f h l = absurd (e refl)
+two-of a b v w out one-named e d f h l = absurd (d refl)
+two-of a b v w out with-margin e d f h l = absurd (f refl)
+two-of a b v w out (two-named {n} l k) e d f h r =
+    let both = subst AllFit (two-arguments v n a b l k) (h .1) in
     let alike : (u : ℕ) → instruction-slots u (raw (pos n) a b) ≡ slot code (pos n) ∷ slot (operand u) a ∷ slot (operand u) b ∷ []
     = λ u. ap (λ (ss : List Slot). slot code (pos n) ∷ ss) (two-arguments u n a b l k) in
     record {
       low-code = k;
-      natural = is-natural (operand v) b (f .1 .0) .is;
-      small = below v b (f .1 .0);
+      natural = is-natural (operand v) b (both .1 .0) .is;
+      small = below v b (both .1 .0);
       room = subst (λ (ss : List Slot). 8 * w .at + w .count + slots-width ss ≤ 8 * length out) (alike v) r;
       alike = alike;
     }
@@ -102,6 +103,7 @@ module _ (c a b : ℤ) {w : Writer} {out : List ℕ} (p : InstructionPuttable (r
           by-code none-named e h = leb-true (natAbs a) M (h .1 .0)
           by-code one-named e h = absurd (omega arith)
           by-code (two-named l k) e h = absurd (omega arith)
+          by-code with-margin e h = absurd (omega arith)
 
       pub constant-allowed : Allowed (back a)
       constant-allowed = subst Allowed (sym (toZ-ofZ w64 a fa)) allowed
@@ -115,6 +117,7 @@ module _ (c a b : ℤ) {w : Writer} {out : List ℕ} (p : InstructionPuttable (r
           by-code none-named e h = h
           by-code one-named e h = absurd (omega arith)
           by-code (two-named l k) e h = absurd (omega arith)
+          by-code with-margin e h = absurd (omega arith)
 
       pub code-room : MayPut w 3 0 out
       code-room =
@@ -145,8 +148,33 @@ module _ (c a b : ℤ) {w : Writer} {out : List ℕ} (p : InstructionPuttable (r
             by-code none-named e = record { puts = λ u. slots-then put-code put-constant }
             by-code one-named e = absurd (omega arith)
             by-code (two-named l k) e = absurd (omega arith)
+            by-code with-margin e = absurd (omega arith)
 
-    module _ (some : n ≡ 0 → ⊥) where
+    -- a constant with a margin, as it is handed on
+    module _ (fb : SFits w64 b) (fifth : n ≡ 5) where
+      five : c ≡ pos 5
+      five = by-code named (sym (as-kept fc number) ∙ fifth)
+        where
+          by-code : {c : ℤ} → Code c → encoded c ≡ 5 → c ≡ pos 5
+          by-code none-named e = absurd (omega arith)
+          by-code one-named e = absurd (omega arith)
+          by-code (two-named l k) e = absurd (omega arith)
+          by-code with-margin e = refl
+
+      same : raw c a b ≡ raw (pos 5) (back a) (back b)
+      same = λ i. raw (five i) (sym (toZ-ofZ w64 a fa) i) (sym (toZ-ofZ w64 b fb) i)
+
+      pub coefficient-handed : InstructionPuttable (raw (pos 5) (back a) (back b)) w out
+      coefficient-handed = subst (λ x. InstructionPuttable x w out) same p
+
+      pub coefficient-done : {new : List ℕ} {r : Writer} → PutsInstruction (raw (pos 5) (back a) (back b)) w out new r
+          → PutsInstruction (raw c a b) w out new r
+      coefficient-done {new} {r} q = subst (λ x. PutsInstruction x w out new r) (sym same) q
+
+    module _ (some : n ≡ 0 → ⊥) (bare : n ≡ 5 → ⊥) where
+      not-five : encoded c ≡ 5 → ⊥
+      not-five e = bare (as-kept fc number ∙ e)
+
       not-zero : encoded c ≡ 0 → ⊥
       not-zero e = some (as-kept fc number ∙ e)
 
@@ -156,15 +184,17 @@ module _ (c a b : ℤ) {w : Writer} {out : List ℕ} (p : InstructionPuttable (r
         small : natAbs a < v
 
       first-operand : First
-      first-operand = by-code named not-zero passed
+      first-operand = by-code named not-zero not-five passed
         where
           of-fits : fits (operand v) a ≡ true → First
           of-fits h = record { natural = is-natural (operand v) a h .is; small = below v a h }
 
-          by-code : {c : ℤ} → Code c → (encoded c ≡ 0 → ⊥) → AllFit (instruction-slots v (raw c a b)) → First
-          by-code none-named e h = absurd (e refl)
-          by-code one-named e h = of-fits (h .1 .0)
-          by-code (two-named {n} l k) e h = of-fits (subst AllFit (two-arguments v n a b l k) (h .1) .0)
+          by-code : {c : ℤ} → Code c → (encoded c ≡ 0 → ⊥) → (encoded c ≡ 5 → ⊥)
+              → AllFit (instruction-slots v (raw c a b)) → First
+          by-code none-named e f h = absurd (e refl)
+          by-code with-margin e f h = absurd (f refl)
+          by-code one-named e f h = of-fits (h .1 .0)
+          by-code (two-named {n} l k) e f h = of-fits (subst AllFit (two-arguments v n a b l k) (h .1) .0)
 
       pub first-natural : back a ≡ pos (natAbs (back a))
       first-natural = natural-kept fa (first-operand .natural)
@@ -195,6 +225,7 @@ module _ (c a b : ℤ) {w : Writer} {out : List ℕ} (p : InstructionPuttable (r
               by-code none-named e h = absurd (omega arith)
               by-code one-named e h = h
               by-code (two-named l k) e h = absurd (omega arith)
+              by-code with-margin e h = absurd (omega arith)
 
           pub one-put : {new : List ℕ} {r : Writer} → Puts w 13 (1024 + x) out new r
               → PutsInstruction (raw c a b) w out new r
@@ -212,13 +243,14 @@ module _ (c a b : ℤ) {w : Writer} {out : List ℕ} (p : InstructionPuttable (r
                         one-room q;
                   }
               by-code (two-named l k) e = absurd (omega arith)
+              by-code with-margin e = absurd (omega arith)
 
         module _ (more : n ≡ 1 → ⊥) where
           not-one : encoded c ≡ 1 → ⊥
           not-one e = more (as-kept fc number ∙ e)
 
           two : Two c a b v w out
-          two = two-of a b v w out named not-zero not-one passed (p .puttable .room)
+          two = two-of a b v w out named not-zero not-one not-five passed (p .puttable .room)
 
           number-is : n ≡ encoded c
           number-is = as-kept fc number

@@ -2,6 +2,7 @@
 pub mod Encodings
 pub mod Puttings
 pub mod Instructions
+pub mod Coefficients
 pub mod Loops
 pub mod Turns
 pub mod Headers

@@ -1,7 +1,7 @@
 -- The packer's three ways to end: a refusal of the tests, no room, the bytes. Assumes nothing.
 use mathlib.Core.Path.{_≡_, sym, _∙_, ap, subst, subst₂}
 use mathlib.Core.List.{List, _++_}
-use Prim.Native.Nat.{ℕ, _+_, _/_, _^_, _≤_, _<_}
+use Prim.Native.Nat.{ℕ, _+_, _^_, _≤_, _<_}
 use native.Mathlib.Nat.{zero-add}
 use native.Mathlib.Omega.{arith}
 use borrow.Author.Tests.{le-leb, lt-leb}

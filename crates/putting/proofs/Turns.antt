@@ -48,7 +48,8 @@ instruction-same u v (pos (suc zero)) a b = record { bits-same = refl; width-sam
 instruction-same u v (pos (suc (suc zero))) a b = record { bits-same = refl; width-same = refl }
 instruction-same u v (pos (suc (suc (suc zero)))) a b = record { bits-same = refl; width-same = refl }
 instruction-same u v (pos (suc (suc (suc (suc zero))))) a b = record { bits-same = refl; width-same = refl }
-instruction-same u v (pos (suc (suc (suc (suc (suc k)))))) a b = record { bits-same = refl; width-same = refl }
+instruction-same u v (pos (suc (suc (suc (suc (suc zero)))))) a b = record { bits-same = refl; width-same = refl }
+instruction-same u v (pos (suc (suc (suc (suc (suc (suc k))))))) a b = record { bits-same = refl; width-same = refl }
 instruction-same u v (negsuc k) a b = record { bits-same = refl; width-same = refl }
 
 append-same : {ss ts us vs : List Slot} → SameBits ss ts → SameBits us vs → SameBits (ss ++ us) (ts ++ vs)

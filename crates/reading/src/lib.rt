@@ -1,35 +1,39 @@
-// An instruction with the tests of its fields, all of which are there; it makes value `below`.
+// An instruction with the tests of its fields; it makes value `below`.
 ghost use Prim.Native.Nat.{_+_, _/_, _^_, _≤_};
 ghost use lib.ListN.{length};
-ghost use Rattle.packed.specs.Loading.{Carries};
-ghost use Rattle.packed.specs.ReaderAnswers.{Instructed, InstructedFrom, Enough};
+ghost use Rattle.packed.specs.ReaderAnswers.{Instructed, InstructedFrom, ReadFrom, Zeroth, Operands, Beyond};
 use bits::Cursor;
 use formulas::Instruction;
 use packed::InstructionRead;
+use packed::coefficient::gather;
 use packed::loaded::Loaded;
 use packed::loaded::load;
 use packed::making::combine;
 use packed::making::signed;
 use refusals::Refusal;
 
-pub fn read_ahead(s: &[u8], l: Loaded, below: usize) -> InstructionRead
-    requires { ⌜ (l .at ≤ 2 ^ 30) × Enough (now s) below l × Carries (now s) l 57 ⌝ }
+// A constant; `l` stands before the code.
+pub fn read_constant(s: &[u8], l: Loaded) -> InstructionRead
+    requires { ⌜ Zeroth (now s) l ⌝ }
+    ensures { λ r. ⌜ ReadFrom (now (s .entry)) l r ⌝ }
+{
+    let code = l.code();
+    let constant = code.rest.constant();
+    if constant.field == 0x8000_0000 {
+        return InstructionRead::Refused(Refusal::Constant);
+    }
+    InstructionRead::Got(
+        Instruction::Constant(signed(constant.field)),
+        constant.rest.place(),
+    )
+}
+
+// One operand or two; `l` stands before the code.
+pub fn read_operands(s: &[u8], l: Loaded, below: usize) -> InstructionRead
+    requires { ⌜ Operands (now s) below l ⌝ }
     ensures { λ r. ⌜ InstructedFrom (now (s .entry)) below l r ⌝ }
 {
     let code = l.code();
-    if code.field == 0 {
-        let constant = code.rest.constant();
-        if constant.field == 0x8000_0000 {
-            return InstructionRead::Refused(Refusal::Constant);
-        }
-        return InstructionRead::Got(
-            Instruction::Constant(signed(constant.field)),
-            constant.rest.place(),
-        );
-    }
-    if 5 <= code.field {
-        return InstructionRead::Refused(Refusal::Code);
-    }
     let first = code.rest.operand();
     if below as u64 <= first.field {
         return InstructionRead::Refused(Refusal::Operand);
@@ -50,11 +54,40 @@ pub fn read_ahead(s: &[u8], l: Loaded, below: usize) -> InstructionRead
     )
 }
 
-// Where eight bytes are there no field can have ended.
+// A constant with its margin, the last field that may have ended; a greater code is none. `l` stands before the code.
+pub fn read_beyond(s: &[u8], l: Loaded) -> InstructionRead
+    requires { ⌜ Beyond (now s) l ⌝ }
+    ensures { λ r. ⌜ ReadFrom (now (s .entry)) l r ⌝ }
+{
+    if 6 <= l.code().field {
+        return InstructionRead::Refused(Refusal::Code);
+    }
+    let end = l.at + 66;
+    if s.len() < (end + 7) / 8 {
+        return InstructionRead::Refused(Refusal::Ended);
+    }
+    let both = gather(s, l);
+    if whole::magnitude(both.centre) + both.margin <= 0x7fff_ffff {
+        return InstructionRead::Got(
+            Instruction::Coefficient(both.centre, both.margin),
+            Cursor { at: end },
+        );
+    }
+    InstructionRead::Refused(Refusal::Constant)
+}
+
+// Where eight bytes are there no field but a margin can have ended.
 pub fn read_whole(s: &[u8], c: Cursor, below: usize) -> InstructionRead
     requires { ⌜ (c .at ≤ 2 ^ 30) × (c .at / 8 + 8 ≤ length (now s)) ⌝ }
     ensures { λ r. ⌜ Instructed (now (s .entry)) below c r ⌝ }
 {
     let l = load(s, c);
-    read_ahead(s, l, below)
+    let code = l.code();
+    if code.field == 0 {
+        return read_constant(s, l);
+    }
+    if 5 <= code.field {
+        return read_beyond(s, l);
+    }
+    read_operands(s, l, below)
 }

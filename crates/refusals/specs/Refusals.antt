@@ -1,12 +1,12 @@
--- Document 01, "Numbered replies and their order": the paper's number for each refusal.
+-- Document 01, "Numbered replies and their order", with request b: the paper's number for each refusal.
 use Prim.Native.Nat.{ℕ}
 use Rattle.refusals.specs.declared.Refusal.{Refusal}
 use Rattle.refusals.specs.declared.Refusal.the-variants as refusal
 
 -- "the bytes end inside a field" · "the version isn't 1" · "the scale is over 30" · "m, l or n is outside its limits" ·
--- "the code is 5, 6 or 7" · "an operand or output names no permitted value" · "a constant is −2^31" · "a padding bit is
--- set or a byte follows" · "the number of readings isn't m .., or one is outside its limits" · "a work list has under
--- m+l places or an output list under n" · "a step's result is out of reach" · "input of another form"
+-- "the code is .. 6 or 7" · "an operand or output names no permitted value" · "a constant is −2^31", "a reach over M" ·
+-- "a padding bit is set or a byte follows" · "the number of readings isn't m .., or one is outside its limits" · "a
+-- work list has under m+l places or an output list under n" · "a step's result is out of reach" · "input of another form"
 abbrev pub refusal-number : Refusal → ℕ
 refusal-number refusal.Ended = 1
 refusal-number refusal.Version = 2

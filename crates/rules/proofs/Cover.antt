@@ -10,7 +10,7 @@ use Rattle.rules.specs.declared.Ball.{Ball}
 use Rattle.rules.specs.declared.Matryoshka.{Matryoshka}
 use Rattle.rules.specs.Numbers.{M, Q, h, Round, Up}
 use Rattle.rules.specs.Values.{Covers, plain-reach, ball-reach, matryoshka-reach}
-use Rattle.rules.specs.Operation.{Operation, each, Alike, constants, negations, sums, differences, products}
+use Rattle.rules.specs.Operation.{Operation, each, Alike, constants, negations, sums, differences, products, coefficients}
 use Rattle.refusals.specs.Answer.{value}
 use Rattle.rules.specs.Steps.{within-reach}
 use Rattle.rules.specs.Plain.{plain-result, plain-rule}
@@ -66,8 +66,12 @@ module _ (F : ℕ) {x y : Matryoshka} {a b : Ball} (p : Covers x a) (q : Covers 
       (add-le-add (mul-le-mul (add-le-add (covered-size p) (p .doubts)) (q .doubts)) (mul-le-mul (covered-size q) (p .doubts)))
       (round-loss F (a .centre *ℤ b .centre)))
 
+-- a centre does not stray from itself
+stays : (c : ℤ) → natAbs (c -ℤ c) ≤ 0
+stays c = size-by (ring (c ∷ []) (x₀ ⊖ x₀) (lit (pos 0)) refl) zero-le
+
 pub result-covers : (F : ℕ) {o : Operation Matryoshka} {e : Operation Ball} → Alike Covers o e → Covers (matryoshka-result F o) (ball-result F e)
-result-covers F (constants c) = record { strays = size-by (ring (c ∷ []) (x₀ ⊖ x₀) (lit (pos 0)) refl) zero-le; doubts = zero-le }
+result-covers F (constants c) = record { strays = stays c; doubts = zero-le }
 result-covers F (negations {a = x} {x = a} p) =
     record {
       strays =
@@ -77,6 +81,7 @@ result-covers F (negations {a = x} {x = a} p) =
 result-covers F (sums p q) = record { strays = sum-strays F p q; doubts = add-le-add (p .doubts) (q .doubts) }
 result-covers F (differences p q) = record { strays = difference-strays F p q; doubts = add-le-add (p .doubts) (q .doubts) }
 result-covers F (products p q) = record { strays = product-strays F p q; doubts = product-doubts F p q }
+result-covers F (coefficients c r) = record { strays = stays c; doubts = le-refl r }
 
 -- "Plain takes the ball's centre rule."
 pub plain-is-centre : (F : ℕ) (e : Operation Ball) → plain-result F (each (λ (b : Ball). b .centre) e) ≡ ball-result F e .centre
@@ -85,6 +90,7 @@ plain-is-centre F (Operation.negate a) = refl
 plain-is-centre F (Operation.add a b) = refl
 plain-is-centre F (Operation.subtract a b) = refl
 plain-is-centre F (Operation.multiply a b) = refl
+plain-is-centre F (Operation.coefficient c r) = refl
 
 -- where the ball rule is accepted, so is the plain rule on the centres, and gives the ball's centre
 pub plain-follows : (F : ℕ) (e : Operation Ball) {b : Ball} → ball-rule F e ≡ value b → plain-rule F (each (λ (c : Ball). c .centre) e) ≡ value (b .centre)

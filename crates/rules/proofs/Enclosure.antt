@@ -10,7 +10,7 @@ use lib.Pow.{pow-pos}
 use Rattle.rules.specs.declared.Ball.{Ball}
 use Rattle.rules.specs.Numbers.{Q, Round, Up}
 use Rattle.rules.specs.Values.{Fraction, Contains, ball-reach}
-use Rattle.rules.specs.Operation.{Operation, Alike, constants, negations, sums, differences, products}
+use Rattle.rules.specs.Operation.{Operation, Alike, constants, negations, sums, differences, products, coefficients}
 use Rattle.refusals.specs.Answer.{value}
 use Rattle.rules.specs.Balls.{ball-result, ball-rule}
 use Rattle.rules.specs.Exact.{Exact, over-both, across}
@@ -23,8 +23,9 @@ use Rattle.whole.proofs.Size.{Within, none, more, size-by, bound, bounded, size
 abbrev miss : ℕ → ℤ → Fraction → ℤ
 miss F c x = x .numerator *ℤ pos (Q F) -ℤ c *ℤ pos (x .denominator)
 
-constant-contains : (F : ℕ) (c : ℤ) → natAbs (c *ℤ pos (Q F) -ℤ c *ℤ pos (Q F)) ≤ 0 * Q F
-constant-contains F c = size-by (ring (c ∷ pos (Q F) ∷ []) (x₀ ⊗ x₁ ⊖ x₀ ⊗ x₁) (lit (pos 0)) refl) zero-le
+-- c/Q is inside every margin around c
+centre-contains : (F : ℕ) (c : ℤ) (r : ℕ) → natAbs (c *ℤ pos (Q F) -ℤ c *ℤ pos (Q F)) ≤ r * Q F
+centre-contains F c r = size-by (ring (c ∷ pos (Q F) ∷ []) (x₀ ⊗ x₁ ⊖ x₀ ⊗ x₁) (lit (pos 0)) refl) zero-le
 
 negation-contains : (F : ℕ) {a : Ball} {x : Fraction} → Contains F a x
     → natAbs (negℤ (x .numerator) *ℤ pos (Q F) -ℤ negℤ (a .centre) *ℤ pos (x .denominator)) ≤ a .margin * x .denominator
@@ -124,11 +125,12 @@ module _ (F : ℕ) {a b : Ball} {x y : Fraction} (p : Contains F a x) (q : Conta
       regroup m n k = ap natAbs (ring (pos m ∷ pos n ∷ pos k ∷ []) (x₀ ⊗ x₁ ⊗ x₂) (x₀ ⊗ x₂ ⊗ x₁) refl)
 
 pub result-contains : (F : ℕ) {o : Operation Ball} {e : Operation Fraction} {x : Fraction} → Alike (Contains F) o e → Exact F e x → Contains F (ball-result F o) x
-result-contains F (constants c) e = rw e (record { near = constant-contains F c })
+result-contains F (constants c) e = rw e (record { near = centre-contains F c 0 })
 result-contains F (negations p) e = rw e (record { near = negation-contains F p })
 result-contains F (sums p q) e = rw e (record { near = sum-contains F p q })
 result-contains F (differences p q) e = rw e (record { near = difference-contains F p q })
 result-contains F (products {a} {b} p q) e = rw e (record { near = product-contains F p q (Round F (a .centre *ℤ b .centre)) })
+result-contains F (coefficients c r) e = e
 
 -- each ball rule: if the operands contain the fractions, the accepted result contains the exact result
 pub ball-contains : (F : ℕ) {o : Operation Ball} {e : Operation Fraction} {b : Ball} {x : Fraction} → Alike (Contains F) o e → ball-rule F o ≡ value b → Exact F e x → Contains F b x
@@ -141,3 +143,5 @@ exact-exists F (Operation.negate a) = (_, refl)
 exact-exists F (Operation.add a b) = (_, refl)
 exact-exists F (Operation.subtract a b) = (_, refl)
 exact-exists F (Operation.multiply a b) = (_, refl)
+exact-exists F (Operation.coefficient c r) =
+    (record { numerator = c; denominator = Q F; at-least-one = pow-pos F }, record { near = centre-contains F c r })

@@ -1,10 +1,10 @@
--- Document 01, "The instructions", the column "Ball".
+-- Document 01, "The instructions", the column "Ball"; request b: "making the ball (c, r)".
 use Prim.Native.Nat.{ℕ, _+_, _*_}
 use lib.IntN.{ℤ, pos, natAbs, negℤ, _+ℤ_, _-ℤ_, _*ℤ_}
 use Rattle.rules.specs.declared.Ball.{Ball}
 use Rattle.rules.specs.Numbers.{Q, Round, Up}
 use Rattle.rules.specs.Values.{ball-reach}
-use Rattle.rules.specs.Operation.{Operation, constant, negate, add, subtract, multiply}
+use Rattle.rules.specs.Operation.{Operation, constant, negate, add, subtract, multiply, coefficient}
 use Rattle.refusals.specs.Answer.{Answer}
 use Rattle.rules.specs.Steps.{within-reach}
 
@@ -27,6 +27,7 @@ ball-result F (negate x) = ball (negℤ (x .centre)) (x .margin)
 ball-result F (add x y) = ball (x .centre +ℤ y .centre) (x .margin + y .margin)
 ball-result F (subtract x y) = ball (x .centre -ℤ y .centre) (x .margin + y .margin)
 ball-result F (multiply x y) = ball-product F x y
+ball-result F (coefficient c r) = ball c r
 
 abbrev pub ball-rule : ℕ → Operation Ball → Answer Ball
 ball-rule F o = within-reach ball-reach (ball-result F o)

@@ -1,13 +1,14 @@
 -- Document 01: "Exact arithmetic takes the same instructions on fractions, a constant c being c/Q, with no rounding and
--- no limit."
+-- no limit." Request b: it "may now take, for each such constant, any fraction inside its margin".
 use mathlib.Core.Path.{_≡_}
 use Prim.Native.Nat.{ℕ, _*_}
 use native.Mathlib.Nat.{mul-pos}
 use lib.IntN.{ℤ, pos, negℤ, _+ℤ_, _-ℤ_, _*ℤ_}
 use lib.Pow.{pow-pos}
 use Rattle.rules.specs.Numbers.{Q}
-use Rattle.rules.specs.Values.{Fraction}
-use Rattle.rules.specs.Operation.{Operation, constant, negate, add, subtract, multiply}
+use Rattle.rules.specs.Values.{Fraction, Contains}
+use Rattle.rules.specs.Balls.{ball}
+use Rattle.rules.specs.Operation.{Operation, constant, negate, add, subtract, multiply, coefficient}
 
 -- n over the product of two fractions' denominators
 abbrev pub over-both : ℤ → Fraction → Fraction → Fraction
@@ -29,3 +30,4 @@ Exact F (negate a) x =
 Exact F (add a b) x = x ≡ over-both (across a b +ℤ across b a) a b
 Exact F (subtract a b) x = x ≡ over-both (across a b -ℤ across b a) a b
 Exact F (multiply a b) x = x ≡ over-both (a .numerator *ℤ b .numerator) a b
+Exact F (coefficient c r) x = Contains F (ball c r) x

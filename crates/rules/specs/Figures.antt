@@ -1,10 +1,12 @@
--- Document 01, "Figures on each side of a limit": the marked ones, as one table of steps and what each must answer.
-use mathlib.Core.List.{List, [], _∷_}
+-- Document 01, "Figures on each side of a limit": the marked ones, as one table of steps and what each must answer; and
+-- a table for request b.
+use mathlib.Core.Path.{_≡_}
+use mathlib.Core.List.{List, [], _∷_, map}
 use Prim.Native.Nat.{ℕ}
 use lib.IntN.{ℤ, pos, negsuc}
 use Rattle.rules.specs.declared.Ball.{Ball}
 use Rattle.rules.specs.declared.Matryoshka.{Matryoshka}
-use Rattle.rules.specs.Operation.{Operation, add, multiply}
+use Rattle.rules.specs.Operation.{Operation, add, multiply, coefficient}
 use Rattle.refusals.specs.Answer.{Answer, value, refused}
 use Rattle.rules.specs.Balls.{ball, ball-rule}
 use Rattle.rules.specs.Matryoshki.{matryoshka, matryoshka-rule}
@@ -34,6 +36,10 @@ infix 1 _gives_
 abbrev pub _gives_ : Step → Answer (List ℤ) → Figure
 s gives a = record { step = s; must = a }
 
+-- each step of a table gives what it must
+abbrev pub Hold : List Figure → Type 0
+Hold t = map (λ (f : Figure). step-answer (f .step)) t ≡ map (λ (f : Figure). f .must) t
+
 -- −15 is `negsuc 14`, −(14 + 1)
 abbrev pub figures : List Figure
 figures =
@@ -51,4 +57,18 @@ figures =
     (pos 5 ∷ pos 2 ∷ pos 1 ∷ []))
     ∷ (on-balls 0 (add (ball (pos 2147483646) 1) (ball (pos 0) 0)) gives value (pos 2147483646 ∷ pos 1 ∷ []))
     ∷ (on-balls 0 (add (ball (pos 2147483646) 1) (ball (pos 0) 1)) gives refused 11)
+    ∷ []
+
+-- "The weight 0.1 .. was rounded into units": 1.6 sixteenths as 2, with a margin of 1. A tenth of 80 is 8, and 8 is
+-- inside (10, 5), while for an exact 2 "its rounding vanished from the margin"; a static margin is then h's unit alone.
+abbrev pub coefficient-figures : List Figure
+coefficient-figures =
+    (on-balls 4 (coefficient (pos 2) 1) gives value (pos 2 ∷ pos 1 ∷ []))
+    ∷ (on-matryoshki 4 (coefficient (pos 2) 1) gives value (pos 2 ∷ pos 0 ∷ pos 1 ∷ []))
+    ∷ (on-balls 4 (multiply (ball (pos 2) 1) (ball (pos 80) 0)) gives value (pos 10 ∷ pos 5 ∷ []))
+    ∷ (on-balls 4 (multiply (ball (pos 2) 0) (ball (pos 80) 0)) gives value (pos 10 ∷ pos 0 ∷ []))
+    ∷ (on-matryoshki 4 (multiply (matryoshka (pos 2) 0 1) (matryoshka (pos 80) 16 0)) gives value
+    (pos 10 ∷ pos 2 ∷ pos 7 ∷ []))
+    ∷ (on-matryoshki 4 (multiply (matryoshka (pos 2) 0 0) (matryoshka (pos 80) 16 0)) gives value
+    (pos 10 ∷ pos 2 ∷ pos 1 ∷ []))
     ∷ []

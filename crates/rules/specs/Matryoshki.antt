@@ -1,10 +1,10 @@
--- Document 01, "The instructions", the column "Matryoshka".
+-- Document 01, "The instructions", the column "Matryoshka"; request b: "and the matryoshka (c, 0, r)".
 use Prim.Native.Nat.{ℕ, _+_, _*_}
 use lib.IntN.{ℤ, natAbs, negℤ, _+ℤ_, _-ℤ_, _*ℤ_}
 use Rattle.rules.specs.declared.Matryoshka.{Matryoshka}
 use Rattle.rules.specs.Numbers.{h, Round, Up}
 use Rattle.rules.specs.Values.{matryoshka-reach}
-use Rattle.rules.specs.Operation.{Operation, constant, negate, add, subtract, multiply}
+use Rattle.rules.specs.Operation.{Operation, constant, negate, add, subtract, multiply, coefficient}
 use Rattle.refusals.specs.Answer.{Answer}
 use Rattle.rules.specs.Steps.{within-reach}
 
@@ -29,6 +29,7 @@ matryoshka-result F (negate x) = matryoshka (negℤ (x .middle)) (x .stray) (x .
 matryoshka-result F (add x y) = matryoshka (x .middle +ℤ y .middle) (x .stray + y .stray) (x .margin + y .margin)
 matryoshka-result F (subtract x y) = matryoshka (x .middle -ℤ y .middle) (x .stray + y .stray) (x .margin + y .margin)
 matryoshka-result F (multiply x y) = matryoshka-product F x y
+matryoshka-result F (coefficient c r) = matryoshka c 0 r
 
 abbrev pub matryoshka-rule : ℕ → Operation Matryoshka → Answer Matryoshka
 matryoshka-rule F o = within-reach matryoshka-reach (matryoshka-result F o)

@@ -1,13 +1,16 @@
--- Document 01, "The instructions": an instruction with the values of its operands, whatever kind of value those are.
+-- Document 01, "The instructions", with the code of request b: an instruction with the values of its operands, whatever
+-- kind of value those are.
+use Prim.Native.Nat.{ℕ}
 use lib.IntN.{ℤ}
 
--- "Code 0: constant c, 1: negate, 2: add, 3: subtract, 4: multiply"
+-- "Code 0: constant c, 1: negate, 2: add, 3: subtract, 4: multiply"; "code 5: a constant with a margin"
 pub data Operation (A : Type 0) : Type 0 where
   constant : ℤ → Operation A
   negate : A → Operation A
   add : A → A → Operation A
   subtract : A → A → Operation A
   multiply : A → A → Operation A
+  coefficient : ℤ → ℕ → Operation A
 
 -- the same instruction, with something else made of each operand
 abbrev pub each : {A B : Type 0} → (A → B) → Operation A → Operation B
@@ -16,6 +19,7 @@ each f (negate a) = negate (f a)
 each f (add a b) = add (f a) (f b)
 each f (subtract a b) = subtract (f a) (f b)
 each f (multiply a b) = multiply (f a) (f b)
+each f (coefficient c r) = coefficient c r
 
 -- the same instruction, with operands that are related one by one
 pub data Alike {A B : Type 0} (R : A → B → Type 0) : Operation A → Operation B → Type 0 where
@@ -24,3 +28,4 @@ pub data Alike {A B : Type 0} (R : A → B → Type 0) : Operation A → Operati
   sums : {a b : A} {x y : B} → R a x → R b y → Alike R (add a b) (add x y)
   differences : {a b : A} {x y : B} → R a x → R b y → Alike R (subtract a b) (subtract x y)
   products : {a b : A} {x y : B} → R a x → R b y → Alike R (multiply a b) (multiply x y)
+  coefficients : (c : ℤ) (r : ℕ) → Alike R (coefficient c r) (coefficient c r)

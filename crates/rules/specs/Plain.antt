@@ -3,7 +3,7 @@ use Prim.Native.Nat.{ℕ}
 use lib.IntN.{ℤ, negℤ, _+ℤ_, _-ℤ_, _*ℤ_}
 use Rattle.rules.specs.Numbers.{Round}
 use Rattle.rules.specs.Values.{plain-reach}
-use Rattle.rules.specs.Operation.{Operation, constant, negate, add, subtract, multiply}
+use Rattle.rules.specs.Operation.{Operation, constant, negate, add, subtract, multiply, coefficient}
 use Rattle.refusals.specs.Answer.{Answer}
 use Rattle.rules.specs.Steps.{within-reach}
 
@@ -13,6 +13,7 @@ plain-result F (negate a) = negℤ a
 plain-result F (add a b) = a +ℤ b
 plain-result F (subtract a b) = a -ℤ b
 plain-result F (multiply a b) = Round F (a *ℤ b)
+plain-result F (coefficient c r) = c
 
 abbrev pub plain-rule : ℕ → Operation ℤ → Answer ℤ
 plain-rule F o = within-reach plain-reach (plain-result F o)

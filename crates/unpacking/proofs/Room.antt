@@ -16,7 +16,8 @@ use Rattle.checking.specs.declared.Checked.{Checked}
 use Rattle.checking.specs.declared.Checked.the-variants.{Formula, Refused}
 use Rattle.checking.specs.CheckAnswers.{check-answer}
 use Rattle.filling.specs.Filling.{ProgramFills}
-use Rattle.unpacking.specs.Fillable.{placed, Fillable}
+use Rattle.packing.specs.Unpacking.{placed}
+use Rattle.unpacking.specs.Fillable.{Fillable}
 
 -- ---- room
 

@@ -11,7 +11,7 @@ use Rattle.bits.specs.Reader.{Read}
 use Rattle.bits.specs.Fields.{before}
 use Rattle.formulas.specs.declared.Instruction.{Instruction}
 use Rattle.packed.specs.Items.{read}
-use Rattle.packed.specs.Format.{instruction, several, wide, all-wide}
+use Rattle.packed.specs.Format.{instruction, several, wide, all-wide, widest}
 use Rattle.packed.proofs.Instructions.{wide-most}
 use Rattle.formulas.specs.Formula.{Smaller}
 use Rattle.lists.specs.Each.{Each, one}
@@ -27,7 +27,7 @@ module _ {A : Type 0} (rule : Operation A → Answer A) (d : A) where
     pub rest : Program s c (l - k) (m + k)
     pub same : run rule d (rest .all .got) vs ≡ run rule d (start .all .got) vs₀
     pub last : rest .all .left ≡ start .all .left
-    pub near : c .at ≤ c₀ .at + 35 * k
+    pub near : c .at ≤ c₀ .at + widest * k
     pub stands : c .at + all-wide (rest .all .got) ≡ c₀ .at + all-wide (start .all .got)
 
   -- the same instructions, with their number and the first value's number written another way

@@ -1,2 +1,3 @@
--- Where the contracts refuse the wrong programs.
+-- Where the contracts and the demands refuse the wrong programs.
 pub mod Stops
+pub mod Loses

@@ -1,2 +1,4 @@
--- Document 01, "How tight the contracts are": the wrong programs to try against the contracts.
+-- Document 01, "How tight the contracts are": the wrong programs to try against the contracts; and two of request b, to
+-- try against the demands.
 pub mod Wrong
+pub mod Coefficients

@@ -33,10 +33,14 @@ Program K = Input K → Outcome K
 abbrev pub Allows : (K : Kind) → Input K → Outcome K → Type 0
 Allows K i o = Kept K (formula (i .bytes)) (i .readings) (i .held) (o .left) (o .reply)
 
--- an input at which the contract refuses what a program leaves
-pub record Stopped (K : Kind) (p : Program K) : Type 0 where
+-- an input at which what a program leaves is not as it must be
+pub record Fails (K : Kind) (Must : Input K → Outcome K → Type 0) (p : Program K) : Type 0 where
   pub at : Input K
-  pub refuses : Allows K at (p at) → ⊥
+  pub refuses : Must at (p at) → ⊥
+
+-- where the contract refuses it
+abbrev pub Stopped : (K : Kind) → Program K → Type 0
+Stopped K p = Fails K (Allows K) p
 
 -- n, the number of outputs that a job is asked for
 abbrev pub asked : {K : Kind} → Input K → ℕ

@@ -1,7 +1,7 @@
 -- `step` meets its contract: each instruction's step, on the values that its operands name. Assumes nothing.
 use borrow.Author.Needs.{needs}
-use Rattle.walks.proofs.Stepping.{negate-named, add-first, add-second, subtract-first, subtract-second, multiply-first, multiply-second}
-use Rattle.walks.proofs.Stepping.{did-constant, did-negate, did-add, did-subtract, did-multiply}
+use Rattle.walks.proofs.Stepping.{negate-named, add-first, add-second, subtract-first, subtract-second, multiply-first, multiply-second, coefficient-small}
+use Rattle.walks.proofs.Stepping.{did-constant, did-negate, did-add, did-subtract, did-multiply, did-coefficient}
 use Rattle.formulas.specs.Kinds.{ball-kind}
 use Rattle.ball_walk.proofs.step.Statement.{statement}
 use Rattle.ball_walk.proofs.step.Tie as tie
@@ -27,8 +27,11 @@ step-spec =
     (λ c κs. search (multiply-first ball-kind))
     (λ c κs. search (multiply-second ball-kind))
     (λ c κs. search needs)
+    (λ c. search needs)
+    (λ c κs. search (coefficient-small ball-kind))
     (λ c. search (did-constant ball-kind))
     (λ c. search (did-negate ball-kind))
     (λ c. search (did-add ball-kind))
     (λ c. search (did-subtract ball-kind))
-    (λ c. search (did-multiply ball-kind)))
+    (λ c. search (did-multiply ball-kind))
+    (λ c. search (did-coefficient ball-kind)))

@@ -1,6 +1,7 @@
 -- `numbers_of` meets its contract: each instruction's code and fields. Assumes nothing.
 use borrow.Author.Needs.{needs}
-use Rattle.filling.proofs.AsNumbers.{operands, made-constant, made-negate, made-add, made-subtract, made-multiply}
+use Rattle.filling.proofs.AsNumbers.{naturals, made-constant, made-negate, made-add, made-subtract, made-multiply}
+use Rattle.filling.proofs.AsNumbers.{made-coefficient}
 use Rattle.filling.proofs.numbers_of.Statement.{statement}
 use Rattle.filling.proofs.numbers_of.Tie as tie
 
@@ -10,18 +11,21 @@ numbers-of-spec =
     (tie.spec
     (λ c. search needs)
     (λ c. search needs)
-    (λ c. search operands)
+    (λ c. search naturals)
     (λ c. search needs)
-    (λ c. search operands)
-    (λ c. search operands)
+    (λ c. search naturals)
+    (λ c. search naturals)
     (λ c. search needs)
-    (λ c. search operands)
-    (λ c. search operands)
+    (λ c. search naturals)
+    (λ c. search naturals)
     (λ c. search needs)
-    (λ c. search operands)
-    (λ c. search operands)
+    (λ c. search naturals)
+    (λ c. search naturals)
+    (λ c. search needs)
+    (λ c. search naturals)
     (λ c. search made-constant)
     (λ c. search made-negate)
     (λ c. search made-add)
     (λ c. search made-subtract)
-    (λ c. search made-multiply))
+    (λ c. search made-multiply)
+    (λ c. search made-coefficient))

@@ -1,14 +1,14 @@
 -- `pass_instructions` meets its contract. Assumes nothing.
 use Prim.Native.Nat.{_-_}
 use borrow.Author.Needs.{needs}
-use Rattle.packed.specs.Format.{instruction}
+use Rattle.packed.specs.Format.{instruction, widest}
 use Rattle.checking.proofs.Several.{Passing, none-passed, all-passed, instruction-refused, instruction-passed, rest-passed}
 use Rattle.checking.proofs.Several.{instructions-near, eight-there}
 use Rattle.checking.proofs.passing.pass_instructions.Statement.{statement}
 use Rattle.checking.proofs.passing.pass_instructions.Tie as tie
 
 abbrev Inv-loop : tie.InvT-loop
-Inv-loop s inputs count at₀ k₀ at k = Passing instruction 35 s at₀ inputs count at k
+Inv-loop s inputs count at₀ k₀ at k = Passing instruction widest s at₀ inputs count at k
 
 abbrev μ-loop : tie.MeasureT-loop
 μ-loop s inputs count at₀ k₀ at k = count - k

@@ -1,13 +1,13 @@
 -- `pass_last` meets its contract. Assumes nothing.
 use Prim.Native.Nat.{_-_}
 use borrow.Author.Needs.{needs}
-use Rattle.packed.specs.Format.{instruction}
+use Rattle.packed.specs.Format.{instruction, widest}
 use Rattle.checking.proofs.Several.{Passing, none-passed, all-passed, instruction-refused, instruction-passed}
 use Rattle.checking.proofs.passing.pass_last.Statement.{statement}
 use Rattle.checking.proofs.passing.pass_last.Tie as tie
 
 abbrev Inv-loop : tie.InvT-loop
-Inv-loop s first count at₀ k₀ at k = Passing instruction 35 s at₀ first count at k
+Inv-loop s first count at₀ k₀ at k = Passing instruction widest s at₀ first count at k
 
 abbrev μ-loop : tie.MeasureT-loop
 μ-loop s first count at₀ k₀ at k = count - k

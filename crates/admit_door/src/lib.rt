@@ -1,4 +1,4 @@
-// The admit job for C.
+// The admit job for a logger in C or Rust, under its C name.
 ghost use Rattle.rules.specs.Lists.{matryoshka-lists};
 ghost use Rattle.formulas.specs.Readings.{domain};
 ghost use Rattle.formulas.specs.Kinds.{matryoshka-kind};

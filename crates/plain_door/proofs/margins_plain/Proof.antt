@@ -2,8 +2,8 @@
 use borrow.Author.Needs.{needs}
 use Rattle.formulas.specs.Kinds.{plain-kind}
 use Rattle.replies.proofs.Telling.{kept-few, kept-door}
-use Rattle.doors.proofs.plain_door.margins_plain.Statement.{statement}
-use Rattle.doors.proofs.plain_door.margins_plain.Tie as tie
+use Rattle.plain_door.proofs.margins_plain.Statement.{statement}
+use Rattle.plain_door.proofs.margins_plain.Tie as tie
 
 pub margins-plain-spec : {M : Type 1} → statement M
 margins-plain-spec =

@@ -2,8 +2,8 @@
 use borrow.Author.Needs.{needs}
 use Rattle.formulas.specs.Kinds.{matryoshka-kind}
 use Rattle.replies.proofs.Telling.{kept-few, kept-door}
-use Rattle.doors.proofs.admit_door.margins_admit.Statement.{statement}
-use Rattle.doors.proofs.admit_door.margins_admit.Tie as tie
+use Rattle.admit_door.proofs.margins_admit.Statement.{statement}
+use Rattle.admit_door.proofs.margins_admit.Tie as tie
 
 pub margins-admit-spec : {M : Type 1} → statement M
 margins-admit-spec =

@@ -1,4 +1,4 @@
-// The plain job for C.
+// The plain job for a logger in C or Rust, under its C name.
 ghost use Rattle.formulas.specs.Kinds.{plain-kind};
 ghost use Rattle.formulas.specs.Job.{lent};
 ghost use Rattle.packed.specs.Meaning.{formula};
