@@ -8,6 +8,12 @@ static inline margins_reply refused(uint32_t refusal, uint64_t place)
     return (margins_reply){refusal, 0, place};
 }
 
+/* A reading outside its limits: a negative stray or margin is told before its reach. */
+static inline margins_reply misread(bool negative, uint64_t place)
+{
+    return refused(negative ? MARGINS_REFUSED_NEGATIVE_MARGIN : MARGINS_REFUSED_READING_TOO_LARGE, place);
+}
+
 static inline margins_reply done(uint32_t outputs)
 {
     return (margins_reply){MARGINS_DONE, outputs, 0};
@@ -36,10 +42,10 @@ margins_reply baseline_plain(const uint8_t *bytes, size_t length,
     if (refusal)
         return refused(refusal, 0);
     if (readings_length != f.inputs)
-        return refused(MARGINS_REFUSED_READINGS, 0);
+        return refused(MARGINS_REFUSED_READING_COUNT, 0);
     for (size_t i = 0; i < f.inputs; i++)
         if (size(readings[i]) > M)
-            return refused(MARGINS_REFUSED_READINGS, 0);
+            return refused(MARGINS_REFUSED_READING_TOO_LARGE, i);
     if (work_length < f.inputs + f.instructions || output_length < f.outputs)
         return refused(MARGINS_REFUSED_NO_ROOM, 0);
 
@@ -90,10 +96,10 @@ margins_reply baseline_ball(const uint8_t *bytes, size_t length,
     if (refusal)
         return refused(refusal, 0);
     if (centres_length != f.inputs || margins_length != f.inputs)
-        return refused(MARGINS_REFUSED_READINGS, 0);
+        return refused(MARGINS_REFUSED_READING_COUNT, 0);
     for (size_t i = 0; i < f.inputs; i++)
         if (size(centres[i]) > M || margins[i] < 0 || margins[i] > M - (int64_t)size(centres[i]))
-            return refused(MARGINS_REFUSED_READINGS, 0);
+            return misread(margins[i] < 0, i);
     size_t values = f.inputs + f.instructions;
     if (work_centres_length < values || work_margins_length < values ||
         output_centres_length < f.outputs || output_margins_length < f.outputs)
@@ -174,10 +180,10 @@ margins_reply baseline_admit(const uint8_t *bytes, size_t length,
     if (refusal)
         return refused(refusal, 0);
     if (middles_length != f.inputs || strays_length != f.inputs || margins_length != f.inputs)
-        return refused(MARGINS_REFUSED_READINGS, 0);
+        return refused(MARGINS_REFUSED_READING_COUNT, 0);
     for (size_t i = 0; i < f.inputs; i++)
         if (!admissible(middles[i], strays[i], margins[i]))
-            return refused(MARGINS_REFUSED_READINGS, 0);
+            return misread(strays[i] < 0 || margins[i] < 0, i);
     size_t values = f.inputs + f.instructions;
     if (work_middles_length < values || work_strays_length < values || work_margins_length < values ||
         output_middles_length < f.outputs || output_strays_length < f.outputs || output_margins_length < f.outputs)

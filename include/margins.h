@@ -38,7 +38,7 @@ extern "C" {
 #endif
 
 /* The version of this interface; it grows when a program written for the one before may need a change. */
-#define MARGINS_INTERFACE 2
+#define MARGINS_INTERFACE 3
 
 /* Enough for every formula. Values are the inputs and the instructions' results; a work list of so many places is never too short. */
 #define MARGINS_MOST_INPUTS 16
@@ -48,23 +48,30 @@ extern "C" {
 /* The longest formula: 32 bits of header, 512 coefficients of 66 bits, 16 outputs of 10 bits. */
 #define MARGINS_MOST_BYTES 4248
 
-/* Why there is no answer. A refusal is one of these numbers, 0 is none; a later library may give further ones. */
+/* Why there is no answer. A refusal is one of these numbers, 0 is none; a later library may give further ones. 9 is not given any more:
+ * 13 to 15 stand in its place, after 1 to 8 and before 10. Where nothing is said of `place` it is 0. */
 enum {
     MARGINS_DONE = 0,
-    MARGINS_REFUSED_ENDED = 1,         /* the bytes end inside a field */
-    MARGINS_REFUSED_VERSION = 2,       /* the version isn't 1 */
-    MARGINS_REFUSED_SCALE = 3,         /* the scale is outside 0 to 30 */
-    MARGINS_REFUSED_COUNT = 4,         /* the number of inputs, instructions or outputs is outside its limits, or the
-                                        * instructions' lists differ in length */
-    MARGINS_REFUSED_CODE = 5,          /* the code is outside 0 to 5 */
-    MARGINS_REFUSED_OPERAND = 6,       /* an operand or output names no permitted value */
-    MARGINS_REFUSED_CONSTANT = 7,      /* a constant is outside -2147483647 to 2147483647, or its margin is below 0 or
-                                        * reaches outside */
-    MARGINS_REFUSED_PADDING = 8,       /* a padding bit is set or a byte follows */
-    MARGINS_REFUSED_READINGS = 9,      /* the number of readings isn't that of the inputs, or one is outside its limits */
-    MARGINS_REFUSED_NO_ROOM = 10,      /* a list to be written is too short */
-    MARGINS_REFUSED_OUT_OF_REACH = 11, /* a step's result is out of reach; place is the instruction, from 0 */
-    MARGINS_REFUSED_FORM = 12          /* the program's input has another form; no function gives it */
+    MARGINS_REFUSED_ENDED = 1,              /* the bytes end inside a field */
+    MARGINS_REFUSED_VERSION = 2,            /* the version isn't 1 */
+    MARGINS_REFUSED_SCALE = 3,              /* the scale is outside 0 to 30 */
+    MARGINS_REFUSED_COUNT = 4,              /* the number of inputs, instructions or outputs is outside its limits, or the
+                                             * instructions' lists differ in length */
+    MARGINS_REFUSED_CODE = 5,               /* the code is outside 0 to 5 */
+    MARGINS_REFUSED_OPERAND = 6,            /* an operand or output names no permitted value */
+    MARGINS_REFUSED_CONSTANT = 7,           /* a constant is outside -2147483647 to 2147483647, or its margin is below 0 or
+                                             * reaches outside */
+    MARGINS_REFUSED_PADDING = 8,            /* a padding bit is set or a byte follows */
+    MARGINS_REFUSED_READING_COUNT = 13,     /* a list of readings has more or fewer than the formula has inputs: margins_check tells
+                                             * how many those are */
+    MARGINS_REFUSED_NEGATIVE_MARGIN = 14,   /* reading `place`, counted from 0, has a negative stray or margin; those before it are
+                                             * good */
+    MARGINS_REFUSED_READING_TOO_LARGE = 15, /* reading `place`, counted from 0, has |centre| + stray + margin over 2147483647; those
+                                             * before it are good */
+    MARGINS_REFUSED_NO_ROOM = 10,           /* a list to be written is too short */
+    MARGINS_REFUSED_OUT_OF_REACH = 11,      /* the result of instruction `place`, counted from 0, is out of reach: shrink the readings
+                                             * or the domain, or use a smaller scale */
+    MARGINS_REFUSED_FORM = 12               /* the program's input has another form; no function gives it */
 };
 
 /* The words of a refusal, for a line of a log; never NULL, and an answer for every number. */
@@ -84,7 +91,9 @@ MARGINS_IN_HEADER const char *margins_refusal_text(uint32_t refusal)
         return "a constant is outside -2147483647 to 2147483647, "
                "or its margin is below 0 or reaches outside";
     case MARGINS_REFUSED_PADDING: return "a padding bit is set or a byte follows";
-    case MARGINS_REFUSED_READINGS: return "the number of readings isn't that of the inputs, or one is outside its limits";
+    case MARGINS_REFUSED_READING_COUNT: return "the number of readings isn't that of the inputs";
+    case MARGINS_REFUSED_NEGATIVE_MARGIN: return "a reading has a negative stray or margin";
+    case MARGINS_REFUSED_READING_TOO_LARGE: return "a reading's |centre| + stray + margin is over 2147483647";
     case MARGINS_REFUSED_NO_ROOM: return "a list to be written is too short";
     case MARGINS_REFUSED_OUT_OF_REACH: return "a step's result is out of reach";
     case MARGINS_REFUSED_FORM: return "the program's input has another form";
@@ -92,8 +101,9 @@ MARGINS_IN_HEADER const char *margins_refusal_text(uint32_t refusal)
     }
 }
 
-/* refusal 0: that many outputs were written, and place is 0. Else no output was written and outputs is 0; place says where: the
- * instruction, from 0, with MARGINS_REFUSED_OUT_OF_REACH, and 0 with the others. */
+/* refusal 0: that many outputs were written, and place is 0. Else no output was written and outputs is 0; place says where, counted from
+ * 0: the reading with MARGINS_REFUSED_NEGATIVE_MARGIN and MARGINS_REFUSED_READING_TOO_LARGE, the instruction with
+ * MARGINS_REFUSED_OUT_OF_REACH; it is 0 with the others. */
 typedef struct {
     uint32_t refusal;
     uint32_t outputs;

@@ -1,26 +1,21 @@
-"""The cases that compare.py runs: the documents' figures, small products, each limit, and random ones, some of them spoilt."""
+"""The cases that compare.py runs: the documents' figures, small products, each limit, random ones, some of them spoilt, and each place of a
+refusal."""
 
 import random
 from itertools import product
 
-import evaluator
 import reader
 from cuts import all_cuts, flipped
 from checks import all_checks, longest, longest_exact
-from damage import damaged, misfielded, roomy, short, wrong_readings
+from damage import damaged, misfielded, needed, roomy, short, wrong_readings
 from figures import figures
 from formulas import CODES, large_run, small_run
 from frames import JOBS, PARTS, Case
+from places import all_places
 
 RANDOM_RUNS = 66000
 LARGE_EVERY = 50
 MOST_PAIRS = 12000
-
-
-def needed(data, parts):
-    """The lengths of the lent lists that just have room."""
-    _, m, l, n = evaluator.formula(data)[0]
-    return (m + l,) * parts + (n,) * parts
 
 
 def case_of(rng, data, readings):
@@ -126,9 +121,18 @@ def cut_cases():
         yield Case(JOBS[parts], data, readings[:parts], lengths[: 2 * parts])
 
 
-def all_cases(seed=1):
-    rng = random.Random(seed)
-    for case, _, _ in figures():
+def by_both_doors(some):
+    """Every second ball case goes through the door over records, where its lists are of one length."""
+    turn = False
+    for case in some:
+        if case.job == "ball" and len(case.readings[0]) == len(case.readings[1]):
+            turn = not turn
+            case = case._replace(job="records" if turn else "ball")
+        yield case
+
+
+def of_every_kind(rng):
+    for case, *_ in figures():
         yield case
     yield from small_products(rng)
     yield from every_scale(rng)
@@ -138,3 +142,8 @@ def all_cases(seed=1):
     yield from cut_cases()
     yield from (Case("check", data) for data in all_checks())
     yield from random_cases(rng)
+
+
+def all_cases(seed=1):
+    yield from by_both_doors(of_every_kind(random.Random(seed)))
+    yield from all_places()

@@ -12,6 +12,7 @@ import checks
 import demands
 import driver
 import frames
+import met
 import reader
 from evaluator import formula
 from figures import figures
@@ -23,6 +24,7 @@ LEAST_SHARE_MULTIPLIED = 0.4
 LEAST_SHARE_DOUBTFUL = 0.2
 LONGEST = 4248
 LONGEST_EXACT = 2264
+MISSING_SHOWN = 20
 
 
 class Comparison:
@@ -31,6 +33,7 @@ class Comparison:
         self.rng = random.Random(2)
         self.passed = self.failed = self.multiplied = self.doubtful = 0
         self.refusals = {job: Counter() for job in frames.JOBS}
+        self.met = set()
         self.tried = Counter()
 
     def judge(self, good, case, *words):
@@ -44,9 +47,9 @@ class Comparison:
 
     def figures(self):
         """The second evaluator itself on the documents' figures."""
-        for case, refusal, outputs in figures():
+        for case, *said in figures():
             want = frames.wanted(case)
-            self.judge((want.refusal, want.outputs) == (refusal, outputs), case, f"  the documents have {refusal} {outputs}")
+            self.judge([want.refusal, want.place, want.outputs] == said, case, f"  the documents have {said}")
 
     def reader_itself(self):
         """The second reader itself on what the documents say of a header, and the length of the longest formulas."""
@@ -80,11 +83,13 @@ class Comparison:
         words = () if same else ("  second evaluator:", frames.told(case, want.reply), "  driver:", frames.told(case, reply))
         self.judge(same, case, *words)
         self.refusals[case.job][want.refusal] += 1
+        if case.job != "check":
+            self.met.update(met.met(case, want))
         if want.refusal == 0:
             names = {name for name, *_ in formula(case.data)[1]}
             self.multiplied += "multiply" in names
             self.doubtful += "coefficient" in names
-            if same and case.job == "ball":
+            if same and case.job in ("ball", "records"):
                 self.demand_2(case, want.values)
 
     def demand_2(self, case, values):
@@ -101,11 +106,12 @@ class Comparison:
         self.tried["demand 3"] += 1
 
     def sanity(self):
-        """Whether the cases are what they are meant to be: each refusal in each job, and enough that is accepted."""
+        """Whether the cases are what they are meant to be: each refusal in each job, at each of its places, and enough that is accepted."""
         for job, counts in self.refusals.items():
-            numbers = range(9) if job == "check" else range(12)
-            print(f"{job}: " + ", ".join(f"{number}: {counts[number]}" for number in numbers))
-            self.expect(all(counts[number] for number in numbers), f"{job}: a refusal that no case meets")
+            print(f"{job}: " + ", ".join(f"{number}: {counts[number]}" for number in sorted(counts)))
+        self.expect(all(self.refusals["check"][number] for number in range(9)), "check: a refusal that no case meets")
+        missing = sorted(met.required() - self.met)
+        self.expect(not missing, f"{len(missing)} things that no case meets: " + "; ".join(missing[:MISSING_SHOWN]))
         total = sum(sum(counts.values()) for counts in self.refusals.values())
         runs = total - sum(self.refusals["check"].values())
         tried = ", ".join(f"{name} {count}" for name, count in sorted(self.tried.items()))

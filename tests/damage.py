@@ -76,17 +76,18 @@ def miscounted(rng, readings):
 
 
 def outside(rng, readings):
-    """One reading outside its limits: far or by one, in any of its parts, or a margin or stray below zero."""
+    """One reading or some outside their limits: far or by one, in any of their parts, or a margin or stray below zero."""
     changed = [list(numbers) for numbers in readings]
-    i = rng.randrange(len(changed[0]))
-    value = [numbers[i] for numbers in changed]
-    part = rng.randrange(len(changed))
-    pick = rng.random()
-    if pick < 0.4 or (part and pick < 0.7):
-        changed[part][i] = rng.choice(TOO_LARGE) if pick < 0.4 else -rng.randrange(1, 4)
-    else:
-        over = M + 1 - sum(map(abs, value))
-        changed[part][i] += -over if value[part] < 0 else over
+    m = len(changed[0])
+    for i in rng.sample(range(m), min(m, rng.choice((1, 1, 2, 3)))):
+        value = [numbers[i] for numbers in changed]
+        part = rng.randrange(len(changed))
+        pick = rng.random()
+        if pick < 0.4 or (part and pick < 0.7):
+            changed[part][i] = rng.choice(TOO_LARGE) if pick < 0.4 else -rng.randrange(1, 4)
+        else:
+            over = M + 1 - sum(map(abs, value))
+            changed[part][i] += -over if value[part] < 0 else over
     return tuple(changed)
 
 
@@ -96,16 +97,22 @@ def wrong_readings(rng, readings):
     return miscounted(rng, readings)
 
 
-def roomy(rng, needed):
+def needed(data, parts):
+    """The lengths of the lent lists that just have room."""
+    _, m, l, n = formula(data)[0]
+    return (m + l,) * parts + (n,) * parts
+
+
+def roomy(rng, enough):
     """Lent lists that have room: some exactly, some with more."""
-    return tuple(length + rng.choice((0, 0, 0, 1, 2, 7)) for length in needed)
+    return tuple(length + rng.choice((0, 0, 0, 1, 2, 7)) for length in enough)
 
 
-def short(rng, needed):
+def short(rng, enough):
     """One lent list, or each of them, short by one place or more."""
-    lengths = list(roomy(rng, needed))
+    lengths = list(roomy(rng, enough))
     wrong = rng.randrange(len(lengths) + 1)
-    for i, length in enumerate(needed):
+    for i, length in enumerate(enough):
         if wrong in (i, len(lengths)):
             lengths[i] = rng.choice((length - 1, length - 1, 0, rng.randrange(length)))
     return tuple(lengths)

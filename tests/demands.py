@@ -59,7 +59,7 @@ def covered(rng, admission):
     centres, margins = [c for c, _ in balls], [s for _, s in balls]
     work, output = admission.lengths[0], admission.lengths[3]
     plain = Case("plain", admission.data, (centres,), (work, output))
-    return plain, Case("ball", admission.data, (centres, margins), (work, work, output, output))
+    return plain, Case(rng.choice(("ball", "records")), admission.data, (centres, margins), (work, work, output, output))
 
 
 def keeps(rng, data, balls, admitted, plain, ball):

@@ -1,7 +1,6 @@
 /* Runs framed cases from standard input and writes framed replies to standard output; frames.py and packing_frames.py tell the forms.
  * Each list is allocated at exactly its length, so that a memory checker sees every step beyond it. In half of the packing cases
- * sentinels stand behind each list that is written instead, so that a step beyond is seen without a checker.
- * Every second ball case goes through the door over records, which must answer identically. */
+ * sentinels stand behind each list that is written instead, so that a step beyond is seen without a checker. */
 #include "margins.h"
 
 #include <stdbool.h>
@@ -9,7 +8,7 @@
 #include <stdlib.h>
 #include <string.h>
 
-enum { CHECK, PLAIN, BALL, ADMIT, PACK, UNPACK };
+enum { CHECK, PLAIN, BALL, ADMIT, RECORDS, PACK, UNPACK };
 enum { CODES, FIRSTS, SECONDS, OUTPUTS, PACKING_LISTS };
 enum { MOST_PARTS = 3, BEHIND = 8, BUFFER = 1 << 20 };
 
@@ -136,6 +135,8 @@ static void free_formula(packed formula)
 static margins_reply run_records(const uint8_t *formula, size_t length, const list *in, list *work, list *out)
 {
     size_t count = in[0].length;
+    if (in[1].length != count)
+        stop("records of which a half is missing");
     margins_reading *readings = allocate(count * sizeof *readings);
     for (size_t i = 0; i < count; i++)
         readings[i] = (margins_reading){in[0].places[i], in[1].places[i]};
@@ -147,18 +148,16 @@ static margins_reply run_records(const uint8_t *formula, size_t length, const li
 }
 #endif
 
-static margins_reply run(int job, bool by_records, const uint8_t *formula, size_t length, list *in, list *work, list *out)
+static margins_reply run(int job, const uint8_t *formula, size_t length, list *in, list *work, list *out)
 {
     switch (job) {
     case PLAIN:
         return margins_plain(formula, length, in[0].places, in[0].length, work[0].places, work[0].length, out[0].places, out[0].length);
-    case BALL:
-#ifdef WITHOUT_RECORDS
-        (void)by_records;
-#else
-        if (by_records && in[0].length == in[1].length)
-            return run_records(formula, length, in, work, out);
+    case RECORDS:
+#ifndef WITHOUT_RECORDS
+        return run_records(formula, length, in, work, out);
 #endif
+    case BALL:
         return margins_ball(formula, length, in[0].places, in[0].length, in[1].places, in[1].length,
                             work[0].places, work[0].length, (uint64_t *)work[1].places, work[1].length,
                             out[0].places, out[0].length, (uint64_t *)out[1].places, out[1].length);
@@ -173,7 +172,7 @@ static margins_reply run(int job, bool by_records, const uint8_t *formula, size_
 static void run_case(int job, size_t number)
 {
     list in[MOST_PARTS], kept[MOST_PARTS], lent[2 * MOST_PARTS];
-    size_t parts = (size_t)job;
+    size_t parts = job == RECORDS ? BALL : (size_t)job;
     packed formula = take_formula(number);
     for (size_t i = 0; i < parts; i++) {
         in[i] = take_list();
@@ -186,7 +185,7 @@ static void run_case(int job, size_t number)
         margins_formula answer = margins_check(formula.bytes, formula.length);
         give(&answer, sizeof answer);
     } else {
-        margins_reply answer = run(job, number % 2, formula.bytes, formula.length, in, lent, lent + parts);
+        margins_reply answer = run(job, formula.bytes, formula.length, in, lent, lent + parts);
         give(&answer, sizeof answer);
     }
     uint8_t intact = same(formula.bytes, formula.kept, formula.length);
@@ -303,7 +302,7 @@ int main(void)
             pack_case(number);
         else if (job == UNPACK)
             unpack_case(number);
-        else if (job <= ADMIT)
+        else if (job <= RECORDS)
             run_case(job, number);
         else
             stop("no such job");

@@ -1,5 +1,5 @@
-"""A second evaluator, written from document 01 and document 02's request b: the three runs in exact integers, and exact arithmetic on
-fractions.
+"""A second evaluator, written from document 01 and document 02's requests b and c: the three runs in exact integers, and exact arithmetic
+on fractions.
 
 A value is a tuple: (x,) in a plain run, (centre, margin) in a ball run, (middle, stray, margin) in an admission.
 """
@@ -28,8 +28,11 @@ def reach(value):
     return abs(value[0]) + sum(value[1:])
 
 
-def legal(value):
-    return min(value[1:], default=0) >= 0 and reach(value) <= M
+def misread(value):
+    """The refusal of a reading, 0 for none."""
+    if min(value[1:], default=0) < 0:
+        return 14
+    return 15 if reach(value) > M else 0
 
 
 def plain_product(scale, left, right):
@@ -76,10 +79,11 @@ def run(parts, data, readings, lengths):
     except reader.Refused as refusal:
         return refusal.number, 0, [], []
     if any(len(numbers) != m for numbers in readings):
-        return 9, 0, [], []
+        return 13, 0, [], []
     values = list(zip(*readings))
-    if not all(map(legal, values)):
-        return 9, 0, [], []
+    for i, value in enumerate(values):
+        if misread(value):
+            return misread(value), i, [], []
     if min(lengths[:parts]) < m + l or min(lengths[parts:]) < n:
         return 10, 0, [], []
     for k, instruction in enumerate(program):

@@ -1,4 +1,5 @@
-"""Document 01's figures, marked and unmarked, its examples, and document 02's on coefficients: cases with what they must give."""
+"""Document 01's figures, marked and unmarked, its examples, and document 02's on coefficients and on the place of a refusal: cases with
+what they must give."""
 
 import reader
 from formulas import CODES
@@ -7,7 +8,7 @@ from frames import JOBS, Case
 M = 2147483647
 EXAMPLE = bytes.fromhex("0241004180000280200003")
 
-# Scale, instruction, operands, and the result or the refusal.
+# Scale, instruction, operands, and the result or the refusal of the only instruction.
 STEPS = (
     (4, "multiply", ((24, 3), (-10, 2)), (-15, 6)),
     (4, "multiply", ((1, 0), (1, 0)), (0, 1)),
@@ -30,6 +31,23 @@ EXAMPLES = (
     (((24,), (-10,)), (9,)),
     (((24, 3), (-10, 2)), (9, 9)),
     (((24, 3, 1), (-10, 2, 1)), (9, 9, 4)),
+)
+
+# Readings for the example formula, and the refusal with its place.
+LOWEST = -(1 << 63)
+REFUSED = (
+    (((24, 3),), (13, 0)),
+    (((24, -3), (-10, -2), (5, -1)), (13, 0)),
+    (((24, 3), (-10, -2)), (14, 1)),
+    (((24, 3, -1), (-10, -2, 1)), (14, 0)),
+    (((24, 3, 1), (-10, 2, LOWEST)), (14, 1)),
+    (((LOWEST, -1), (M + 1, 0)), (14, 0)),
+    (((M + 1,), (LOWEST,)), (15, 0)),
+    (((24,), (LOWEST,)), (15, 1)),
+    (((M, 1), (-10, -2)), (15, 0)),
+    (((24, 3, 1), (2 - M, 2, 1)), (15, 1)),
+    (((M,), (M,)), (11, 0)),
+    (((M,), (16,)), (11, 1)),
 )
 
 # 0.1 at scale 4 is 1.6 units: as a coefficient 2 give or take 1. A reading of 160 units, times it, and what that gives: the exact
@@ -69,14 +87,16 @@ def exactly_enough(data, readings, values, outputs):
 
 
 def figures():
-    """Each case with its refusal and its outputs."""
+    """Each case with its refusal, its place and its outputs."""
     for scale, name, operands, result in STEPS:
         data = reader.pack(scale, len(operands), [(CODES.index(name), *range(len(operands)))], [len(operands)])
         case = exactly_enough(data, operands, len(operands) + 1, 1)
-        yield (case, result, []) if isinstance(result, int) else (case, 0, [result])
+        yield (case, result, 0, []) if isinstance(result, int) else (case, 0, 0, [result])
     for readings, output in EXAMPLES:
-        yield exactly_enough(EXAMPLE, readings, 4, 1), 0, [output]
+        yield exactly_enough(EXAMPLE, readings, 4, 1), 0, 0, [output]
+    for readings, refusal in REFUSED:
+        yield exactly_enough(EXAMPLE, readings, 4, 1), *refusal, []
     for value, outputs in WEIGHED:
-        yield exactly_enough(WEIGHT, (value,), 3, 2), 0, list(outputs)
+        yield exactly_enough(WEIGHT, (value,), 3, 2), 0, 0, list(outputs)
     for data, refusal in CHECKS:
-        yield Case("check", data), refusal, []
+        yield Case("check", data), refusal, 0, []

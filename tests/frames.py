@@ -12,9 +12,10 @@ from typing import NamedTuple
 import evaluator
 import reader
 
-JOBS = ("check", "plain", "ball", "admit")
-RUNS = {"plain": evaluator.plain, "ball": evaluator.ball, "admit": evaluator.admit}
-PARTS = {"check": 0, "plain": 1, "ball": 2, "admit": 3}
+# At first each by the number of its reading's parts; the last is the ball job through its door over records.
+JOBS = ("check", "plain", "ball", "admit", "records")
+RUNS = {"plain": evaluator.plain, "ball": evaluator.ball, "admit": evaluator.admit, "records": evaluator.ball}
+PARTS = {"check": 0, "plain": 1, "ball": 2, "admit": 3, "records": 2}
 LONGEST_LENT = 1024
 INTACT = b"\x01"
 HEAD = 17

@@ -28,7 +28,8 @@ def random_case(rng):
     job = rng.choice(frames.JOBS)
     parts = frames.PARTS[job]
     data = random_bytes(rng)
-    readings = tuple(tuple(rng.randrange(-(1 << 63), 1 << 63) for _ in range(rng.randrange(20))) for _ in range(parts))
+    sizes = [rng.randrange(20)] * parts if job == "records" else [rng.randrange(20) for _ in range(parts)]
+    readings = tuple(tuple(rng.randrange(-(1 << 63), 1 << 63) for _ in range(size)) for size in sizes)
     lengths = tuple(rng.choice((0, 1, 2, 17, 530)) for _ in range(2 * parts))
     return frames.Case(job, data, readings, lengths)
 

@@ -6,8 +6,8 @@
 
 #include "margins.h"
 
-#if MARGINS_INTERFACE != 2
-#error "this program is written for interface 2"
+#if MARGINS_INTERFACE != 3
+#error "this program is written for interface 3"
 #endif
 
 static const uint8_t formula[] = {0x02, 0x41, 0x00, 0x41, 0x80, 0x00, 0x02, 0x80, 0x20, 0x00, 0x03};
@@ -21,6 +21,8 @@ static void tell_refusal(const char *job, margins_reply reply)
     printf("%s: refused %" PRIu32 ", %s", job, reply.refusal, margins_refusal_text(reply.refusal));
     if (reply.refusal == MARGINS_REFUSED_OUT_OF_REACH)
         printf(", at instruction %" PRIu64, reply.place);
+    if (reply.refusal == MARGINS_REFUSED_NEGATIVE_MARGIN || reply.refusal == MARGINS_REFUSED_READING_TOO_LARGE)
+        printf(", at reading %" PRIu64, reply.place);
     printf("\n");
 }
 
@@ -47,10 +49,10 @@ static void check_longest(void)
     check(longest, made.bytes);
 }
 
-static void plain(int64_t x, int64_t y, size_t work_length)
+static void plain(int64_t x, int64_t y, size_t count, size_t work_length)
 {
     const int64_t readings[] = {x, y};
-    margins_reply reply = margins_plain(formula, sizeof formula, readings, 2, work, work_length, output, MARGINS_MOST_OUTPUTS);
+    margins_reply reply = margins_plain(formula, sizeof formula, readings, count, work, work_length, output, MARGINS_MOST_OUTPUTS);
     if (reply.refusal)
         tell_refusal("plain", reply);
     else
@@ -143,15 +145,18 @@ int main(void)
     check(formula, sizeof formula);
     check(formula, sizeof formula - 1);
     check_longest();
-    plain(24, -10, MARGINS_MOST_VALUES);
-    plain(24, -10, 3);
-    plain(2147483648, -10, MARGINS_MOST_VALUES);
+    plain(24, -10, 2, MARGINS_MOST_VALUES);
+    plain(24, -10, 2, 3);
+    plain(24, -10, 1, MARGINS_MOST_VALUES);
+    plain(2147483648, -10, 2, MARGINS_MOST_VALUES);
     ball((margins_reading){24, 3}, (margins_reading){-10, 2});
-    ball((margins_reading){24, -3}, (margins_reading){-10, 2});
+    ball((margins_reading){24, 3}, (margins_reading){-10, -2});
+    ball((margins_reading){24, 3}, (margins_reading){-10, 2147483647});
     ball((margins_reading){1000000, 0}, (margins_reading){1000000, 0});
     ball_of_two_lists((const int64_t[]){24, -10}, (const int64_t[]){3, 2});
     admit((const int64_t[]){24, -10}, (const int64_t[]){3, 2}, (const int64_t[]){1, 1});
     admit((const int64_t[]){24, -10}, (const int64_t[]){2147483000, 2}, (const int64_t[]){1, 1});
+    admit((const int64_t[]){24, -10}, (const int64_t[]){3, -2}, (const int64_t[]){1, 1});
     pack(4, MARGINS_MOST_BYTES);
     pack(4, sizeof formula - 1);
     pack(-1, MARGINS_MOST_BYTES);
@@ -160,7 +165,7 @@ int main(void)
     weigh(MARGINS_CODE_COEFFICIENT, -1, (margins_reading){160, 0});
     unpack(MARGINS_MOST_INSTRUCTIONS);
     unpack(1);
-    for (uint32_t refusal = 0; refusal <= MARGINS_REFUSED_FORM + 1; refusal++)
+    for (uint32_t refusal = 0; refusal <= MARGINS_REFUSED_READING_TOO_LARGE + 1; refusal++)
         printf("%" PRIu32 ": %s\n", refusal, margins_refusal_text(refusal));
     return 0;
 }

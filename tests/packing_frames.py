@@ -1,10 +1,10 @@
 """Cases of packing and reading back, and their replies, as bytes between packing.py and driver.c, little-endian.
 
-A case of packing: job 4 (1 byte), scale and inputs (8 each), then codes, firsts, seconds and outputs, each as length (4) and numbers (8
+A case of packing: job 5 (1 byte), scale and inputs (8 each), then codes, firsts, seconds and outputs, each as length (4) and numbers (8
 each), then the buffer's length (4). Its reply: the struct of margins.h (16 bytes), whether the lists and the bytes around the buffer are
 as they were (1), then every byte of the buffer.
 
-A case of reading back: job 5 (1 byte), the formula's length (4) and bytes, then the length (4) of each lent list. Its reply: the struct
+A case of reading back: job 6 (1 byte), the formula's length (4) and bytes, then the length (4) of each lent list. Its reply: the struct
 (16 bytes), whether the formula and the places behind the lists are as they were (1), then every place (8 each) of every lent list.
 """
 
@@ -38,9 +38,9 @@ class Wanted(NamedTuple):
 def asked(case):
     """The frame of a case."""
     if isinstance(case, Unpack):
-        return struct.pack("<BI", 5, len(case.data)) + case.data + struct.pack("<4I", *case.lengths)
+        return struct.pack("<BI", 6, len(case.data)) + case.data + struct.pack("<4I", *case.lengths)
     scale, inputs, *lists = case.lists
-    pieces = [struct.pack("<Bqq", 4, scale, inputs)]
+    pieces = [struct.pack("<Bqq", 5, scale, inputs)]
     pieces += [struct.pack(f"<I{len(numbers)}q", len(numbers), *numbers) for numbers in lists]
     return b"".join(pieces) + struct.pack("<I", case.room)
 

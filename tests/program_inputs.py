@@ -1,13 +1,16 @@
-"""Inputs for the program `margins`, each with what it is: accepted, refused 1 to 11, and of another form (12)."""
+"""Inputs for the program `margins`, each with what it is: accepted, refused at each place, and of another form (12)."""
 
 import random
+from itertools import product
 
 import reader
 from checks import longest, longest_exact
 from cuts import COEFFICIENTS, HEADERS, INPUTS, REFUSED
 from damage import wrong_readings
+from evaluator import M
 from figures import EXAMPLE, EXAMPLES, WEIGHED, WEIGHT
 from formulas import large_run, small_run
+from places import IN_REACH, MOST_INPUTS, MOST_INSTRUCTIONS, good
 from program_malformed import READING, WORDS, malformed, text
 
 RANDOM_ACCEPTED = 40
@@ -16,6 +19,8 @@ BEYOND_TEN_DIGITS = 10**10
 # Numbers of every permitted form, on each side of the limits.
 NUMBERS = (b"-0", b"007", b"0000000024", b"-000000024", b"2147483647", b"-2147483647", b"2147483648", b"-2147483648",
            b"4294967295", b"4294967296", b"4294967320", b"-4294967320", b"9999999999", b"-9999999999")
+# A reading that is refused by itself.
+BAD = {b"plain": b"2147483648", b"ball": b"24 -3", b"admit": b"24 3 -1"}
 
 
 def of_lists(data, readings):
@@ -78,6 +83,8 @@ def counts():
     for word in WORDS:
         for count in (0, 1, 3, 16, 17, 18, 100, 500):
             yield f"{count} readings for two inputs", text(EXAMPLE, word, [READING[word]] * count)
+        for count in (1, 2, 3):
+            yield f"{count} bad readings for two inputs", text(EXAMPLE, word, [BAD[word]] * count)
         yield "longest formula", text(longest(), word, [READING[word]] * 16)
         yield "longest formula of constants", text(longest_exact(), word, [READING[word]] * 16)
     yield "too many readings for a refused formula", text(EXAMPLE[:-1], b"plain", [b"1"] * 40)
@@ -90,9 +97,10 @@ def sizes():
         yield "a centre", text(EXAMPLE, b"ball", [number + b" 0", b"1 0"])
         yield "a margin", text(EXAMPLE, b"ball", [b"1 0", b"1 " + number])
         yield "a stray", text(EXAMPLE, b"admit", [b"1 0 0", b"1 " + number + b" 0"])
-    for reading in (b"2147483646 1", b"2147483646 2", b"-2147483646 1", b"-2147483646 2", b"0 2147483647", b"0 -1"):
+    for reading in (b"2147483646 1", b"2147483646 2", b"-2147483646 1", b"-2147483646 2", b"0 2147483647", b"0 -1", b"2147483648 -1"):
         yield "reach of a ball", text(reader.pack(0, 1, [], [0]), b"ball", [reading])
-    for reading in (b"2147483645 1 1", b"2147483645 2 1", b"-2147483645 1 2", b"0 0 2147483647", b"5 -1 0", b"5 0 -1"):
+    matryoshki = b"2147483645 1 1", b"2147483645 2 1", b"-2147483645 1 2", b"0 0 2147483647", b"5 -1 0", b"5 0 -1"
+    for reading in (*matryoshki, b"-2147483648 -1 0", b"0 2147483648 -1", b"0 -1 2147483648"):
         yield "reach of a matryoshka", text(reader.pack(0, 1, [], [0]), b"admit", [reading])
     for numbers in ((b"2147483647", b"-1"), (b"2147483647", b"1"), (b"-2147483647", b"-1")):
         yield "sum at the limit", text(reader.pack(4, 2, [(2, 0, 1)], [2]), b"plain", numbers)
@@ -100,8 +108,29 @@ def sizes():
         yield "sum of balls at the limit", text(reader.pack(0, 2, [(2, 0, 1)], [2]), b"ball", [b"2147483646 1", reading])
 
 
+def bad_readings():
+    """The lowest at each place, by each of its parts, and others behind it."""
+    data = reader.pack(4, MOST_INPUTS, [(1, 0)], [MOST_INPUTS])
+    for parts, place in product((1, 2, 3), range(MOST_INPUTS)):
+        large = (M + 1, BEYOND_TEN_DIGITS - 1)[place % 2]
+        behind = [(large, 0, 0)[:parts], (5, -1, -1)[:parts]] * MOST_INPUTS
+        for part, number in ((0, -large), *product(range(1, parts), (large, -1))):
+            lowest = tuple(number if i == part else 0 for i in range(parts))
+            values = [*good(parts, place), lowest, *behind[: MOST_INPUTS - 1 - place]]
+            yield f"reading {place} and those behind it", of_lists(data, tuple(zip(*values)))
+
+
+def steps():
+    """Each instruction out of reach, in the three jobs by turns, and others behind it."""
+    for k in range(MOST_INSTRUCTIONS):
+        m, parts = 1 + k % MOST_INPUTS, 1 + k % 3
+        program = [*IN_REACH[:k], (2, 0, 0), (1, 0), (2, 0, 0)][:MOST_INSTRUCTIONS]
+        far = tuple(M if i == k // 3 % parts else 0 for i in range(parts))
+        yield f"instruction {k} out of reach", of_lists(reader.pack(4, m, program, [m + k]), tuple(zip(far, *good(parts, m - 1))))
+
+
 def all_inputs(seed=1):
     yield from examples()
     yield from random_runs(random.Random(seed))
-    for some in (refused_formulas, coefficients, counts, sizes, malformed):
+    for some in (refused_formulas, coefficients, counts, sizes, bad_readings, steps, malformed):
         yield from some()

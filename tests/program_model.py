@@ -1,4 +1,4 @@
-"""What the program `margins` must print, written from document 01, section "The program"."""
+"""What the program `margins` must print, written from document 01, section "The program", and document 02's request c."""
 
 import re
 
@@ -12,19 +12,19 @@ READINGS = {parts: re.compile(rb" ".join([NUMBER] * parts)) for parts in PARTS.v
 ROOM = 528
 
 
-def refused(number):
-    return b"refused %d\n" % number
+def refused(number, place):
+    return b"refused %d %d\n" % (number, place)
 
 
 def answer(data):
     """The whole output for this input."""
     form = parsed(data)
     if form is None:
-        return refused(12)
+        return refused(12, 0)
     parts, formula, readings = form
-    refusal, _, _, outputs = evaluator.run(parts, formula, readings, (ROOM,) * (2 * parts))
+    refusal, place, _, outputs = evaluator.run(parts, formula, readings, (ROOM,) * (2 * parts))
     if refusal:
-        return refused(refusal)
+        return refused(refusal, place)
     lines = [f"y{i} " + " ".join(map(str, output)) for i, output in enumerate(outputs)]
     return "".join(line + "\n" for line in [f"ok {len(outputs)}", *lines]).encode()
 

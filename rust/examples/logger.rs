@@ -27,7 +27,7 @@ fn log_the_readings() -> Result<(), Refused> {
     let (mut centres, mut margins) = (vec![0; formula.outputs], vec![0; formula.outputs]);
     let mut output = LentBalls { centres: &mut centres, margins: &mut margins };
 
-    for (first, second) in [(24, -10), (26, -11), (i64::from(i32::MAX) - 1, 16), (i64::MIN, 0)] {
+    for (first, second) in [(24, -10), (26, -11), (i64::from(i32::MAX) - 1, 16), (0, i64::MIN)] {
         let readings = [Reading { centre: first, margin: 1 }, Reading { centre: second, margin: 1 }];
         match ball_records(&FORMULA, &readings, work.lent(), output.lent()) {
             Ok(count) => (0..count).for_each(|i| println!("y{i}: {} give or take {}", output.centres[i], output.margins[i])),

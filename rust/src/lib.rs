@@ -3,7 +3,8 @@
 //! A formula is a string of bytes. [`check`] says whether bytes are one; [`plain`] runs it on bare readings, [`ball`] on readings with a
 //! margin each, [`admit`] once on a whole domain. [`pack`] makes the bytes of lists of instructions and outputs, [`unpack`] the lists of
 //! bytes. Every function may be called with any bytes, any numbers and lists of any length: it answers or refuses, and a refusal writes no
-//! output. Readings, constants and results are whole counts of one unit, 2^-F, where F is the formula's scale.
+//! output. [`Refused`] says why and, where it is about one of them, which reading or instruction. Readings, constants and results are whole
+//! counts of one unit, 2^-F, where F is the formula's scale.
 //!
 //! The caller lends the memory: a work list needs a place for each value, an output list one for each output. [`Balls`] and [`Matryoshki`]
 //! have room for every formula; [`check`] tells what one formula needs. After an answer the work list holds all values. After

@@ -23,12 +23,16 @@ pub enum Refusal {
     Constant,
     /// 8: a padding bit is set or a byte follows.
     Padding,
-    /// 9: the number of readings isn't that of the inputs, or one is outside its limits.
-    Readings,
     /// 10: a list to be written is too short.
     NoRoom,
-    /// 11: a step's result is out of reach.
+    /// 11: a step's result is out of reach. The place is the instruction, from 0.
     OutOfReach,
+    /// 13: the number of readings isn't that of the inputs.
+    ReadingCount,
+    /// 14: a reading has a negative stray or margin. The place is the reading, from 0; those before it are good.
+    NegativeMargin,
+    /// 15: a reading's |centre| + stray + margin is over 2147483647. The place is the reading, from 0; those before it are good.
+    ReadingTooLarge,
     /// A number that this version has no name for. A later one may name it: rather compare, or ask [`Refusal::number`].
     Other(u32),
 }
@@ -51,9 +55,11 @@ impl Refusal {
             6 => Refusal::Operand,
             7 => Refusal::Constant,
             8 => Refusal::Padding,
-            9 => Refusal::Readings,
             10 => Refusal::NoRoom,
             11 => Refusal::OutOfReach,
+            13 => Refusal::ReadingCount,
+            14 => Refusal::NegativeMargin,
+            15 => Refusal::ReadingTooLarge,
             _ => Refusal::Other(number),
         })
     }
@@ -62,6 +68,7 @@ impl Refusal {
     pub(crate) const fn place_name(self) -> Option<&'static str> {
         match self.number() {
             11 => Some("instruction"),
+            14 | 15 => Some("reading"),
             _ => None,
         }
     }
@@ -78,15 +85,17 @@ impl Refusal {
             Refusal::Operand => (6, "an operand or output names no permitted value"),
             Refusal::Constant => (7, "a constant is outside -2147483647 to 2147483647, or its margin is below 0 or reaches outside"),
             Refusal::Padding => (8, "a padding bit is set or a byte follows"),
-            Refusal::Readings => (9, "the number of readings isn't that of the inputs, or one is outside its limits"),
             Refusal::NoRoom => (10, "a list to be written is too short"),
             Refusal::OutOfReach => (11, "a step's result is out of reach"),
+            Refusal::ReadingCount => (13, "the number of readings isn't that of the inputs"),
+            Refusal::NegativeMargin => (14, "a reading has a negative stray or margin"),
+            Refusal::ReadingTooLarge => (15, "a reading's |centre| + stray + margin is over 2147483647"),
             Refusal::Other(number) => (number, "for a reason that this version has no words for"),
         }
     }
 }
 
-// By the number, so that `Refusal::Other(13)` stays equal to what the library gives once a later version names 13.
+// By the number, so that `Refusal::Other(16)` stays equal to what the library gives once a later version names 16.
 impl PartialEq for Refusal {
     fn eq(&self, other: &Self) -> bool {
         self.number() == other.number()
@@ -117,12 +126,16 @@ impl Error for Refusal {}
 /// let refused = margins::plain(&formula, &[limit, 16], &mut [0; 4], &mut [0; 1]).unwrap_err();
 /// assert_eq!((refused.refusal.number(), refused.place), (11, Some(1)));
 /// assert_eq!(refused.to_string(), "a step's result is out of reach (refused 11), at instruction 1");
+/// let refused = margins::plain(&formula, &[24, limit + 1], &mut [0; 4], &mut [0; 1]).unwrap_err();
+/// assert_eq!((refused.refusal.number(), refused.place), (15, Some(1)));
+/// assert_eq!(refused.to_string(), "a reading's |centre| + stray + margin is over 2147483647 (refused 15), at reading 1");
 /// ```
 #[derive(Clone, Copy, Debug, PartialEq, Eq, Hash)]
 pub struct Refused {
     /// Why.
     pub refusal: Refusal,
-    /// Where: with [`Refusal::OutOfReach`] the instruction, from 0. The other refusals of this version have no place.
+    /// Where, from 0: with [`Refusal::OutOfReach`] the instruction, with [`Refusal::NegativeMargin`] and [`Refusal::ReadingTooLarge`] the
+    /// reading. The other refusals of this version have no place.
     pub place: Option<usize>,
 }
 

@@ -6,8 +6,12 @@ use std::fmt::Debug;
 const FORMULA: [u8; 11] = [0x02, 0x41, 0x00, 0x41, 0x80, 0x00, 0x02, 0x80, 0x20, 0x00, 0x03];
 const LIMIT: i64 = i32::MAX as i64;
 
+fn at(refusal: Refusal, place: usize) -> Refused {
+    Refused { refusal, place: Some(place) }
+}
+
 fn out_of_reach(place: usize) -> Refused {
-    Refused { refusal: Refusal::OutOfReach, place: Some(place) }
+    at(Refusal::OutOfReach, place)
 }
 
 #[test]
@@ -33,11 +37,49 @@ fn every_run_tells_the_instruction_that_is_out_of_reach() {
 fn the_other_refusals_have_no_place() {
     let (mut work, mut output) = ([7; 4], [7; 1]);
     assert_eq!(plain(&[], &[], &mut work, &mut output), Err(Refusal::Ended.into()));
-    assert_eq!(plain(&FORMULA, &[1], &mut work, &mut output), Err(Refusal::Readings.into()));
-    assert_eq!(plain(&FORMULA, &[1, i64::MIN], &mut work, &mut output), Err(Refusal::Readings.into()));
+    assert_eq!(plain(&FORMULA, &[1], &mut work, &mut output), Err(Refusal::ReadingCount.into()));
+    assert_eq!(plain(&FORMULA, &[1, 1, i64::MIN], &mut work, &mut output), Err(Refusal::ReadingCount.into()));
     assert_eq!(plain(&FORMULA, &[1, 1], &mut work[..3], &mut output), Err(Refusal::NoRoom.into()));
     assert_eq!(plain(&FORMULA, &[1, 1], &mut [], &mut []), Err(Refusal::NoRoom.into()));
     assert_eq!((work, output), ([7; 4], [7; 1]));
+}
+
+#[test]
+fn every_run_tells_the_lowest_bad_reading() {
+    let (negative, large) = (Refusal::NegativeMargin, Refusal::ReadingTooLarge);
+    let mut work = [7; 4];
+    for (readings, place) in [([LIMIT + 1, i64::MIN], 0), ([i64::MIN, 0], 0), ([LIMIT, -LIMIT - 1], 1), ([0, i64::MIN], 1)] {
+        assert_eq!(plain(&FORMULA, &readings, &mut work, &mut []), Err(at(large, place)));
+    }
+    assert_eq!(work, [7; 4]);
+
+    let (mut work, mut output) = (Balls::default(), Balls::default());
+    for (centres, margins, refused) in [
+        ([24, -10], [3, -2], at(negative, 1)),
+        ([24, i64::MIN], [i64::MIN, 0], at(negative, 0)),
+        ([i64::MIN, 0], [0, -1], at(large, 0)),
+        ([i64::MIN, 0], [-1, 0], at(negative, 0)),
+        ([24, LIMIT], [3, 1], at(large, 1)),
+        ([24, 0], [3, i64::MAX], at(large, 1)),
+    ] {
+        assert_eq!(ball(&FORMULA, &centres, &margins, work.lent(), output.lent()), Err(refused));
+        let readings = [0, 1].map(|i| Reading { centre: centres[i], margin: margins[i] });
+        assert_eq!(ball_records(&FORMULA, &readings, work.lent(), output.lent()), Err(refused));
+        assert_eq!(ball(&FORMULA, &centres, &margins[..1], work.lent(), output.lent()), Err(Refusal::ReadingCount.into()));
+    }
+    assert_eq!((work, output), (Balls::default(), Balls::default()));
+
+    let (mut work, mut output) = (Matryoshki::default(), Matryoshki::default());
+    for (strays, margins, refused) in [
+        ([3, -2], [1, 1], at(negative, 1)),
+        ([3, LIMIT], [-1, 1], at(negative, 0)),
+        ([LIMIT, 0], [1, i64::MIN], at(large, 0)),
+        ([3, 2], [1, LIMIT], at(large, 1)),
+    ] {
+        assert_eq!(admit(&FORMULA, &[24, -10], &strays, &margins, work.lent(), output.lent()), Err(refused));
+        assert_eq!(admit(&FORMULA, &[24, -10], &strays[1..], &margins, work.lent(), output.lent()), Err(Refusal::ReadingCount.into()));
+    }
+    assert_eq!((work, output), (Matryoshki::default(), Matryoshki::default()));
 }
 
 #[test]
@@ -66,9 +108,10 @@ fn check_refuses_with_each_number_of_the_file() {
 fn each_number_has_one_refusal_and_words_of_its_own() {
     assert_eq!(Refusal::numbered(0), None);
     assert_eq!(Refusal::Other(11), Refusal::OutOfReach);
-    assert_ne!(Refusal::Other(13), Refusal::OutOfReach);
-    let words: Vec<String> = (1..=11).map(|number| Refusal::numbered(number).unwrap().to_string()).collect();
-    for (number, said) in (1..).zip(&words) {
+    assert_ne!(Refusal::Other(16), Refusal::OutOfReach);
+    let numbers = [1, 2, 3, 4, 5, 6, 7, 8, 10, 11, 13, 14, 15];
+    let words = numbers.map(|number| Refusal::numbered(number).unwrap().to_string());
+    for (number, said) in numbers.into_iter().zip(&words) {
         assert_eq!(Refusal::numbered(number).unwrap().number(), number);
         assert!(said.ends_with(&format!(" (refused {number})")), "{said}");
         assert_eq!(words.iter().filter(|other| *other == said).count(), 1);
@@ -77,7 +120,7 @@ fn each_number_has_one_refusal_and_words_of_its_own() {
 
 #[test]
 fn a_later_number_is_kept_and_told() {
-    for number in [12, 13, 4096, u32::MAX] {
+    for number in [9, 12, 16, 4096, u32::MAX] {
         let refusal = Refusal::numbered(number).unwrap();
         assert!(matches!(refusal, Refusal::Other(n) if n == number));
         assert_eq!(refusal.number(), number);
@@ -90,6 +133,12 @@ fn a_later_number_is_kept_and_told() {
 fn the_words_say_where() {
     assert_eq!(out_of_reach(3).to_string(), "a step's result is out of reach (refused 11), at instruction 3");
     assert_eq!(Refused::from(Refusal::OutOfReach).to_string(), "a step's result is out of reach (refused 11)");
+    let negative = at(Refusal::NegativeMargin, 0).to_string();
+    assert_eq!(negative, "a reading has a negative stray or margin (refused 14), at reading 0");
+    let large = at(Refusal::ReadingTooLarge, 15).to_string();
+    assert_eq!(large, "a reading's |centre| + stray + margin is over 2147483647 (refused 15), at reading 15");
+    let count = Refused::from(Refusal::ReadingCount).to_string();
+    assert_eq!(count, "the number of readings isn't that of the inputs (refused 13)");
     assert_eq!(check(&[]).unwrap_err().to_string(), "the bytes end inside a field (refused 1)");
 }
 
@@ -98,7 +147,7 @@ fn checked_and_run(formula: &[u8]) -> Result<i64, Refused> {
     let mut output = vec![0; header.outputs];
     plain(formula, &[24, -10], &mut vec![0; header.values()], &mut output)?;
     if output[0] < 0 {
-        Err(Refusal::Readings)?;
+        Err(Refusal::NegativeMargin)?;
     }
     Ok(output[0])
 }

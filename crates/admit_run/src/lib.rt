@@ -11,6 +11,7 @@ use checking::checking::check;
 use domain_readings::admit_readings;
 use lists::least_of_three;
 use refusals::Reply;
+use running::Start;
 use running::tested;
 
 // The header of a formula that can be carried out on this domain in lists with so many places, or the refusal.
@@ -21,12 +22,12 @@ fn ready(
     margins: &[i64],
     work: usize,
     output: usize,
-) -> Checked
+) -> Start
     ensures { λ r. ⌜ Ready matryoshka-kind (now (s .entry))
         (domain (now (middles .entry)) (now (strays .entry)) (now (margins .entry))) work output r ⌝ }
 {
     match check(s) {
-        Checked::Refused(r) => Checked::Refused(r),
+        Checked::Refused(r) => Start::Refused(r, 0),
         Checked::Formula(h) => tested(
             h,
             admit_readings(middles, strays, margins, h.inputs),
@@ -67,8 +68,8 @@ pub fn run(
         output_margins.len(),
     );
     match ready(s, middles, strays, margins, work, output) {
-        Checked::Refused(r) => Reply::Refused(r, 0),
-        Checked::Formula(h) => carry_out(
+        Start::Refused(r, k) => Reply::Refused(r, k),
+        Start::On(h) => carry_out(
             s,
             h,
             middles,

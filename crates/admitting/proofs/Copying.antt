@@ -1,6 +1,5 @@
 -- The admit run in the code's shape: its domain can be copied, it is its inputs, and the picked matryoshki its outputs. Assumes nothing.
 use mathlib.Core.Path.{_≡_, subst}
-use mathlib.Core.Bool.{true}
 use mathlib.Core.List.{List, map}
 use Prim.Native.Nat.{ℕ, _≤_}
 use native.Mathlib.Omega.{arith}
@@ -14,9 +13,10 @@ use Rattle.rules.specs.Lists.{matryoshki, MatryoshkaLists, matryoshka-lists, Ho
 use Rattle.rules.proofs.Lists.{matryoshki-copied, matryoshki-picked}
 use Rattle.bits.specs.declared.Cursor.{Cursor}
 use Rattle.formulas.specs.declared.Header.{Header}
-use Rattle.formulas.specs.Readings.{Domain, domain-tested}
+use Rattle.formulas.specs.Readings.{Domain, domain-brought}
 use Rattle.formulas.specs.Kinds.{matryoshka-kind}
 use Rattle.formulas.specs.Job.{Lent, lent, Kept}
+use Rattle.formulas.proofs.Judging.{Fit}
 use Rattle.formulas.proofs.Fitting.{let-in, DomainFit, domain-fit, strays-even, margins-even}
 use Rattle.formulas.proofs.Lawful.{matryoshka-lawful, Room, matryoshka-room}
 use Rattle.packed.specs.Meaning.{formula, meant}
@@ -29,11 +29,11 @@ use Rattle.running.proofs.Running.{begun-by, Copied, copied-finishable, copied-
 use Rattle.domain_readings.specs.Copying.{Copyable, CopiesDomain}
 
 module _ {s : List ℕ} {h : Header} {g : Domain} {work output : MatryoshkaLists} (b : Begins matryoshka-kind s h g (lent matryoshka-kind work output)) where
-  let-through : (domain-tested (h .inputs) g ≡ true) × (matryoshki (g .middles) (map natAbs (g .strays)) (map natAbs (g .margins)) ≡ begun-by b .values)
-  let-through = let-in (domain-tested (h .inputs) g) (matryoshki (g .middles) (map natAbs (g .strays)) (map natAbs (g .margins))) (begun-by b .fits)
+  let-through : Fit (h .inputs) (domain-brought g) × (matryoshki (g .middles) (map natAbs (g .strays)) (map natAbs (g .margins)) ≡ begun-by b .values)
+  let-through = let-in matryoshka-kind (h .inputs) g (begun-by b .fits)
 
   fit : DomainFit (h .inputs) g
-  fit = domain-fit (h .inputs) g (let-through .0)
+  fit = domain-fit g (let-through .0)
 
   pub domain-copyable : Copyable g work
   domain-copyable =

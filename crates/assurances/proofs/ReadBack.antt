@@ -26,13 +26,13 @@ use Rattle.printing.specs.Decimal.{decimal}
 use Rattle.printing.proofs.OneNumber.{Above}
 use Rattle.listing.specs.OutputLines.{listed}
 use Rattle.listing.proofs.OneListing.{OneLine, line-one, number-on-a-line, listed-one, listed-unlike}
-use Rattle.telling.specs.Program.{ok-word, ok-text, refused-text, another-form, text-of, kind-text, most-values, most-outputs, job-text, if-rows, if-job, if-lines, longest-input, program-text}
+use Rattle.telling.specs.Program.{ok-word, ok-text, refused-text, twelve-text, text-of, kind-text, most-values, most-outputs, job-text, if-rows, if-job, if-lines, longest-input, program-text}
 use Rattle.assurances.specs.Printed.{Asks, AsksFor, printed, RefusedOr, a-refusal, outputs}
 
 pub asks-text : {s bytes : List ℕ} {j : Job} {rows : List (List ℤ)} → Asks s j bytes rows → program-text s ≡ job-text j bytes rows
 unfolding program-text
 asks-text {s} {bytes} {j} q =
-    ap (λ (t : Bool). cond t (if-lines (lines s)) (refused-text another-form)) (le-leb (length s) longest-input (q .short))
+    ap (λ (t : Bool). cond t (if-lines (lines s)) twelve-text) (le-leb (length s) longest-input (q .short))
     ∙ ap if-lines (q .has-lines)
     ∙ ap₂ (λ (b : Option (List ℕ)) (n : Option Job). if-job b n (q .reading-lines)) (q .in-hex) (q .names-job)
     ∙ ap (if-rows j bytes) (q .has-rows)
@@ -42,8 +42,8 @@ ok-above n =
     All.one {a = 111} (omega arith) (All.one {a = 107} (omega arith) (All.one {a = 32} (omega arith) (number-on-a-line n)))
 
 -- no refusal is told with `ok`
-not-ok : (m n : ℕ) (rest : List ℕ) → refused-text m ≡ ok-text n ++ rest → ⊥
-not-ok m n rest e = let z : _≡_ {A = ℕ} 114 111 = cc in omega arith
+not-ok : (m k n : ℕ) (rest : List ℕ) → refused-text m k ≡ ok-text n ++ rest → ⊥
+not-ok m k n rest e = let z : _≡_ {A = ℕ} 114 111 = cc in omega arith
 
 module _ {K : Kind} (law : Lawful K) (bytes : List ℕ) (given : K .Readings) where
   outputs-legal : (work output : ℕ) {vs os : List (K .Value)} → Does K (formula bytes) given work output vs os → All (K .Legal) os
@@ -65,8 +65,8 @@ module _ {K : Kind} (law : Lawful K) (bytes : List ℕ) (given : K .Readings) wh
       where
         by-job : (j : Result (K .Value)) → job K (formula bytes) given most-values most-outputs ≡ j → text-of fields j ≡ printed fields os
             → (vs : List (K .Value)) × (job K (formula bytes) given most-values most-outputs ≡ done vs os)
-        by-job (refused-first n) u e = absurd (not-ok n (length os) (listed fields 0 os) e)
-        by-job (stopped-at k n vs) u e = absurd (not-ok n (length os) (listed fields 0 os) e)
+        by-job (refused-first n k) u e = absurd (not-ok n k (length os) (listed fields 0 os) e)
+        by-job (stopped-at k n vs) u e = absurd (not-ok n k (length os) (listed fields 0 os) e)
         by-job (done vs ws) u e =
             let h = line-one (listed fields 0 ws) (listed fields 0 os) (ok-above (length ws)) (ok-above (length os)) e in
             let legal = outputs-legal most-values most-outputs (does K (formula bytes) given most-values most-outputs u) in
@@ -80,8 +80,8 @@ module _ {K : Kind} (law : Lawful K) (bytes : List ℕ) (given : K .Readings) wh
       where
         by-job : (j : Result (K .Value)) → job K (formula bytes) given most-values most-outputs ≡ j
             → RefusedOr fields P (text-of fields (job K (formula bytes) given most-values most-outputs))
-        by-job (refused-first n) u = a-refusal n (ap (text-of fields) u)
-        by-job (stopped-at k n vs) u = a-refusal n (ap (text-of fields) u)
+        by-job (refused-first n k) u = a-refusal n k (ap (text-of fields) u)
+        by-job (stopped-at k n vs) u = a-refusal n k (ap (text-of fields) u)
         by-job (done vs os) u = outputs os (ap (text-of fields) u) (p os (ap (text-of fields) u))
 
     -- no job is told with lines of another form: every formula has an output
@@ -91,8 +91,8 @@ module _ {K : Kind} (law : Lawful K) (bytes : List ℕ) (given : K .Readings) wh
     kind-unlike {B} {others} f g differ ws e = by-job (job K (formula bytes) given most-values most-outputs) refl e
       where
         by-job : (j : Result (K .Value)) → job K (formula bytes) given most-values most-outputs ≡ j → text-of fields j ≡ printed others ws → ⊥
-        by-job (refused-first n) u e = not-ok n (length ws) (listed others 0 ws) e
-        by-job (stopped-at k n vs) u e = not-ok n (length ws) (listed others 0 ws) e
+        by-job (refused-first n k) u e = not-ok n k (length ws) (listed others 0 ws) e
+        by-job (stopped-at k n vs) u e = not-ok n k (length ws) (listed others 0 ws) e
         by-job (done vs os) u e =
             let d = does K (formula bytes) given most-values most-outputs u in
             let well = accepted-well-formed bytes (d .started .means) in
@@ -102,8 +102,8 @@ module _ {K : Kind} (law : Lawful K) (bytes : List ℕ) (given : K .Readings) wh
 
 -- what is printed from `ok` on was asked for
 module _ (s : List ℕ) (n : ℕ) (rest : List ℕ) where
-  not-refused : refused-text another-form ≡ ok-text n ++ rest → ⊥
-  not-refused e = not-ok another-form n rest e
+  not-refused : twelve-text ≡ ok-text n ++ rest → ⊥
+  not-refused e = not-ok 12 0 n rest e
 
   module _ (short : length s ≤ longest-input) (f w : List ℕ) (ls : List (List ℕ)) (has : lines s ≡ some (f ∷ w ∷ ls)) where
     by-rows : (bytes : List ℕ) (j : Job) → hex f ≡ some bytes → job-named w ≡ some j → (r : Option (List (List ℤ)))
@@ -133,7 +133,7 @@ module _ (s : List ℕ) (n : ℕ) (rest : List ℕ) where
   unfolding program-text
   told-asks e = by-length (leb (length s) longest-input) refl e
     where
-      by-length : (t : Bool) → leb (length s) longest-input ≡ t → cond t (if-lines (lines s)) (refused-text another-form) ≡ ok-text n ++ rest
+      by-length : (t : Bool) → leb (length s) longest-input ≡ t → cond t (if-lines (lines s)) twelve-text ≡ ok-text n ++ rest
           → (j : Job) × AsksFor s j
       by-length true t e = by-lines (leb-true (length s) longest-input t) (lines s) refl e
       by-length false t e = absurd (not-refused e)

@@ -64,7 +64,7 @@ pub record Encloses (bytes : List ℕ) (given : BallReadings) (bs : List Ball) :
 
 -- a refusal, or the lines of outputs of which P holds
 pub data RefusedOr {A : Type 0} (fields : A → List ℕ) (P : List A → Type 0) (text : List ℕ) : Type 0 where
-  a-refusal : (n : ℕ) → text ≡ refused-text n → RefusedOr fields P text
+  a-refusal : (n k : ℕ) → text ≡ refused-text n k → RefusedOr fields P text
   outputs : (vs : List A) → text ≡ printed fields vs → P vs → RefusedOr fields P text
 
 -- lists that hold the values and nothing else

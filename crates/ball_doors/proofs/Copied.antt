@@ -1,22 +1,26 @@
 -- The ball job answers the columns of the first 17 records as it answers all of the records. Assumes nothing.
 use mathlib.Core.Path.{_≡_, refl, sym, _∙_, ap, ap₂, subst}
-use mathlib.Core.Bool.{Bool, true, false, _&&_}
+use mathlib.Core.Bool.{Bool, true, false}
 use mathlib.Core.List.{List, map}
+use mathlib.Core.Logic.{inl}
 use Prim.Native.Nat.{ℕ, _<_}
 use native.Mathlib.Omega.{arith}
 use borrow.Author.Tests.{ltb-true, ltb-false}
-use lib.Dec.{T, eqb, ltb, eqb→eq}
-use lib.IntN.{ℤ, natAbs}
+use lib.Dec.{ltb}
+use lib.IntN.{ℤ}
 use lib.ListN.{length, take, length-map}
 use lib.Seq.{length-take-le, take-all}
 use Rattle.refusals.specs.declared.Refusal.the-variants as refusal
-use Rattle.refusals.specs.Answer.{Answer, value, refused, refuse, then}
+use Rattle.refusals.specs.Answer.{Answer, value, refused, then}
+use Rattle.refusals.specs.Places.{Placed, refused-at, elsewhere, refuse-at}
+use Rattle.refusals.proofs.Answers.{then-refused}
 use Rattle.rules.specs.declared.Ball.{Ball}
 use Rattle.rules.specs.Lists.{balls, HoldBalls}
 use Rattle.formulas.specs.Formula.{Formula}
-use Rattle.formulas.specs.Readings.{all-balls, ball-readings, if-fit}
-use Rattle.formulas.specs.Kinds.{ball-kind}
+use Rattle.formulas.specs.Readings.{ball-readings, balls-brought}
+use Rattle.formulas.specs.Kinds.{ball-kind, tested}
 use Rattle.formulas.specs.Job.{Started, roomy, if-room, start, Result, if-started, job, work-of, outputs-of, said, Lent}
+use Rattle.formulas.proofs.Judging.{miscounted}
 use Rattle.packed.specs.Meaning.{formula}
 use Rattle.packed.proofs.WellFormed.{accepted-well-formed}
 use Rattle.columns.specs.declared.MarginsBall.{MarginsBall}
@@ -26,27 +30,22 @@ use Rattle.replies.specs.declared.MarginsReply.{MarginsReply}
 use Rattle.replies.specs.Doors.{margins-reply, Door}
 
 -- more than 16 readings are refused, whatever they are
-abbrev unread : Answer Formula → Answer (Started ball-kind)
-unread (refused n) = refused n
-unread (value f) = refuse refusal.Readings
-
-fails : (t : Bool) → (T t → ⊥) → t ≡ false
-fails true f = absurd (f tt)
-fails false f = refl
+abbrev unread : Answer Formula → Placed (Started ball-kind)
+unread (refused n) = refused-at n 0
+unread (value f) = refuse-at refusal.ReadingCount 0
 
 many-readings : (s : List ℕ) (cs rs : List ℤ) (w o : ℕ) → 16 < length cs → start ball-kind (formula s) (ball-readings cs rs) w o ≡ unread (formula s)
 unfolding start
 many-readings s cs rs w o many = by-formula (formula s) refl
   where
     by-formula : (a : Answer Formula) → formula s ≡ a
-        → then a (λ f. then (ball-kind .tested (f .header .inputs) (ball-readings cs rs)) (λ vs.
-        if-room (roomy (f .header) w o) (record { formula = f; values = vs }))) ≡ unread a
+        → then (elsewhere a) (λ f. then (tested ball-kind (f .header .inputs) (ball-readings cs rs)) (λ vs.
+        elsewhere (if-room (roomy (f .header) w o) (record { formula = f; values = vs })))) ≡ unread a
     by-formula (refused n) e = refl
     by-formula (value f) e =
         let few = accepted-well-formed s e .limits .inputs-few in
-        ap (λ (t : Bool). then (if-fit (t && (eqb (length rs) (f .header .inputs) && all-balls cs rs)) (balls cs (map natAbs rs))) (λ vs.
-        if-room (roomy (f .header) w o) (record { formula = f; values = vs })))
-        (fails (eqb (length cs) (f .header .inputs)) (λ t. let e = eqb→eq (length cs) (f .header .inputs) t in absurd (omega (arith, e, many, few))))
+        then-refused _ (then-refused (λ x. value (ball-kind .values (ball-readings cs rs)))
+        (miscounted (f .header .inputs) (balls-brought (ball-readings cs rs)) (inl (λ u. omega (arith, u, many, few)))))
 
 -- the job over the first 17 records
 firsts : (s : List ℕ) (ys : List MarginsBall) (w o : ℕ) (t : Bool) → ltb 16 (length ys) ≡ t

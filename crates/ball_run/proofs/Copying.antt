@@ -1,6 +1,5 @@
 -- The ball run in the code's shape: its readings can be copied, they are its inputs, and the picked balls its outputs. Assumes nothing.
 use mathlib.Core.Path.{_≡_, subst}
-use mathlib.Core.Bool.{true}
 use mathlib.Core.List.{List, map}
 use Prim.Native.Nat.{ℕ, _≤_}
 use native.Mathlib.Omega.{arith}
@@ -14,9 +13,10 @@ use Rattle.rules.specs.Lists.{balls, BallLists, ball-lists, HoldBalls}
 use Rattle.rules.proofs.Lists.{balls-copied, balls-picked}
 use Rattle.bits.specs.declared.Cursor.{Cursor}
 use Rattle.formulas.specs.declared.Header.{Header}
-use Rattle.formulas.specs.Readings.{ball-readings, ball-tested}
+use Rattle.formulas.specs.Readings.{ball-readings, balls-brought}
 use Rattle.formulas.specs.Kinds.{ball-kind}
 use Rattle.formulas.specs.Job.{Lent, lent, Kept}
+use Rattle.formulas.proofs.Judging.{Fit}
 use Rattle.formulas.proofs.Fitting.{let-in, BallFit, ball-fit, balls-even}
 use Rattle.formulas.proofs.Lawful.{ball-lawful, ball-room}
 use Rattle.packed.specs.Meaning.{formula, meant}
@@ -29,11 +29,11 @@ use Rattle.running.proofs.Running.{begun-by, Copied, copied-finishable, copied-
 
 module _ {s : List ℕ} {h : Header} {cs rs wc : List ℤ} {wm : List ℕ} {output : BallLists}
     (b : Begins ball-kind s h (ball-readings cs rs) (lent ball-kind (ball-lists wc wm) output)) where
-  let-through : (ball-tested (h .inputs) (ball-readings cs rs) ≡ true) × (balls cs (map natAbs rs) ≡ begun-by b .values)
-  let-through = let-in (ball-tested (h .inputs) (ball-readings cs rs)) (balls cs (map natAbs rs)) (begun-by b .fits)
+  let-through : Fit (h .inputs) (balls-brought (ball-readings cs rs)) × (balls cs (map natAbs rs) ≡ begun-by b .values)
+  let-through = let-in ball-kind (h .inputs) (ball-readings cs rs) (begun-by b .fits)
 
   fit : BallFit (h .inputs) (ball-readings cs rs)
-  fit = ball-fit (h .inputs) (ball-readings cs rs) (let-through .0)
+  fit = ball-fit (ball-readings cs rs) (let-through .0)
 
   room : (h .inputs ≤ length wc) × (h .inputs ≤ length wm)
   room = ball-room (ball-lists wc wm) (omega (arith, begun-by b .work-room))

@@ -16,16 +16,17 @@ use lists::least_of;
 use outputs::pick_pairs;
 use readings::ball_readings;
 use refusals::Reply;
+use running::Start;
 use running::tested;
 use walks::Walked;
 
 // The header of a formula that can be carried out on these readings in lists with so many places, or the refusal.
-fn ready(s: &[u8], centres: &[i64], margins: &[i64], work: usize, output: usize) -> Checked
+fn ready(s: &[u8], centres: &[i64], margins: &[i64], work: usize, output: usize) -> Start
     ensures { λ r. ⌜ Ready ball-kind (now (s .entry)) (ball-readings (now (centres .entry)) (now (margins .entry)))
         work output r ⌝ }
 {
     match check(s) {
-        Checked::Refused(r) => Checked::Refused(r),
+        Checked::Refused(r) => Start::Refused(r, 0),
         Checked::Formula(h) => tested(h, ball_readings(centres, margins, h.inputs), work, output),
     }
 }
@@ -117,8 +118,8 @@ pub fn run(
     let work = least_of(work_centres.len(), work_margins.len());
     let output = least_of(output_centres.len(), output_margins.len());
     match ready(s, centres, margins, work, output) {
-        Checked::Refused(r) => Reply::Refused(r, 0),
-        Checked::Formula(h) => carry_out(
+        Start::Refused(r, k) => Reply::Refused(r, k),
+        Start::On(h) => carry_out(
             s,
             h,
             centres,

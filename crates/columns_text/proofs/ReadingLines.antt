@@ -20,7 +20,7 @@ use Rattle.rows.specs.Rows.{column, rows-of, column-of, column-front}
 use Rattle.lists.specs.Written.{Wrote}
 use Rattle.lists.proofs.Again.{wrote-same}
 use Rattle.listing.specs.OutputLines.{plain-fields, ball-fields, matryoshka-fields}
-use Rattle.telling.specs.Program.{refused-text, another-form, kind-text}
+use Rattle.telling.specs.Program.{twelve-text, kind-text}
 use Rattle.telling.specs.Program.{job-text, if-rows}
 use Rattle.columns_text.specs.JobLines.{job-with, lines-text}
 use Rattle.columns_text.specs.ColumnsRead.{Lined, FirstRead, SecondRead}
@@ -82,7 +82,7 @@ module _ {k n : ℕ} {s out : List ℕ} {old new : List ℤ} {q : Gathered} wher
 -- what was printed
 module _ (k : ℕ) (bytes s : List ℕ) {o now : List ℕ} {t : ℕ} where
   pub told-malformed : (j : ℕ) {old new : List ℤ} {q : Gathered} → Gathers (column-of k j s) (column-front k j s) old new q → q ≡ Malformed
-      → Wrote (refused-text another-form) 0 o now t → Wrote (lines-text k bytes s) 0 o now t
+      → Wrote twelve-text 0 o now t → Wrote (lines-text k bytes s) 0 o now t
   unfolding lines-text
   told-malformed j g e w = wrote-same (sym (ap (if-rows (job-with k) bytes) (no-rows k s j (taken-none g e)))) w
 

@@ -25,7 +25,7 @@ pub fn by_second(
     }
     let mut third: [i64; 8192] = [0; 8192];
     match column::read(lines, k, 2, &mut third) {
-        Gathered::Malformed => put_refused(Refusal::AnotherForm, out),
+        Gathered::Malformed => put_refused(Refusal::AnotherForm, 0, out),
         Gathered::Got(n) => admit_text::answer(formula, first, second, &third[..n], out),
     }
 }

@@ -14,7 +14,7 @@ use Rattle.refusals.specs.Said.{answered}
 use Rattle.refusals.proofs.OneReply.{never-both, one-reply}
 use Rattle.formulas.specs.Formula.{Formula, WellFormed, places}
 use Rattle.formulas.specs.Run.{finished}
-use Rattle.formulas.specs.Kinds.{Kind}
+use Rattle.formulas.specs.Kinds.{Kind, tested}
 use Rattle.formulas.specs.Job.{Started, roomy, Result, refused-first, stopped-at, done, started-run, work-of, outputs-of, said, Lent, lent-job, Kept}
 use Rattle.formulas.proofs.Lawful.{Lawful}
 use Rattle.formulas.proofs.Jobs.{Starts, starts-done, made-many, does}
@@ -43,7 +43,7 @@ answers {K} {s} {given} {old} {new} {n} k = by-job (lent-job K (formula s) given
   where
     by-job : (j : Result (K .Value)) → lent-job K (formula s) given old ≡ j → answered n ≡ said j → K .Holds (work-of j) (old .work) (new .work)
         → K .Holds (outputs-of j) (old .output) (new .output) → Answers K s given old new n
-    by-job (refused-first m) u e w o = absurd (never-both e)
+    by-job (refused-first m i) u e w o = absurd (never-both e)
     by-job (stopped-at i m vs) u e w o = absurd (never-both e)
     by-job (done vs os) u e w o =
         let d = does K (formula s) given (K .room (old .work)) (K .room (old .output)) u in
@@ -80,7 +80,7 @@ pub record AnswersWith (K : Kind) (f : Formula) (made : List (K .Value)) (old ne
   pub output-holds : K .Holds (picked (K .nothing) made (f .results)) (old .output) (new .output)
 
 pub answers-with : (K : Kind) (s : List ℕ) {given : K .Readings} {old new : Lent K} {f : Formula} {vs made : List (K .Value)} {n : ℕ} (r : Reply)
-    → formula s ≡ value f → K .tested (f .header .inputs) given ≡ value vs → roomy (f .header) (K .room (old .work)) (K .room (old .output)) ≡ true
+    → formula s ≡ value f → tested K (f .header .inputs) given ≡ value vs → roomy (f .header) (K .room (old .work)) (K .room (old .output)) ≡ true
     → started-run K (record { formula = f; values = vs }) ≡ finished made → n ≡ length (f .results) → Kept K (formula s) given old new r
     → AnswersWith K f made old new r n
 answers-with K s {given} {old} {new} {f} {vs} {made} {n} r e t u x l k =

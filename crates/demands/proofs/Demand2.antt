@@ -14,7 +14,7 @@ use Rattle.rules.specs.Lists.{balls, no-ball}
 use Rattle.rules.proofs.Enclosure.{exact-exists}
 use Rattle.formulas.specs.declared.Instruction.{Instruction}
 use Rattle.formulas.specs.Formula.{Smaller}
-use Rattle.formulas.specs.Readings.{BallReadings, ball-tested}
+use Rattle.formulas.specs.Readings.{BallReadings}
 use Rattle.formulas.specs.Run.{with-values}
 use Rattle.formulas.specs.Kinds.{ball-kind}
 use Rattle.formulas.specs.Job.{Lent, Kept}
@@ -37,7 +37,7 @@ exact-run-exists F (i ∷ is) xs =
 module _ {s : List ℕ} {given : BallReadings} {old new : Lent ball-kind} {n : ℕ} (a : Answers ball-kind s given old new n) where
   -- the run's inputs are the readings
   are-readings : balls (given .centres) (map natAbs (given .margins)) ≡ a .on .values
-  are-readings = let-in (ball-tested (a .on .formula .header .inputs) given) (balls (given .centres) (map natAbs (given .margins))) (a .started .fits) .1
+  are-readings = let-in ball-kind (a .on .formula .header .inputs) given (a .started .fits) .1
 
   encloses : {xs ys : List Fraction} → Chosen (a .on .formula .header .scale) given xs
       → ExactRun (a .on .formula .header .scale) (a .on .formula .program) xs ys → Rel (Contains (a .on .formula .header .scale)) (a .made) ys

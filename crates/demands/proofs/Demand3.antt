@@ -1,6 +1,5 @@
 -- Demand 3: what an accepted admission promises of every plain and every ball job on readings within its domain. Assumes nothing.
 use mathlib.Core.Path.{_≡_, refl, sym, _∙_, ap, ap₂, subst}
-use mathlib.Core.Bool.{Bool, true}
 use mathlib.Core.List.{List, [], _∷_, map}
 use Prim.Native.Nat.{ℕ}
 use native.Mathlib.Nat.{le-trans, le-of-eq, add-le-add, add-mul, mul-le-mul-right}
@@ -25,18 +24,19 @@ use Rattle.rules.proofs.Lists.{centre-part, static-part, balls-centres}
 use Rattle.lists.proofs.PartOf.{part-front}
 use Rattle.formulas.specs.Formula.{Smaller, places}
 use Rattle.formulas.specs.Run.{finished, run}
-use Rattle.formulas.specs.Readings.{BallReadings, Domain, plain-tested, ball-tested, domain-tested, if-fit}
+use Rattle.formulas.specs.Readings.{BallReadings, Domain, plain-brought, balls-brought, domain-brought}
 use Rattle.formulas.specs.Kinds.{plain-kind, ball-kind, matryoshka-kind}
 use Rattle.formulas.specs.Job.{Lent, Kept}
 use Rattle.formulas.specs.ExactRun.{nought, ExactRun}
 use Rattle.formulas.proofs.Enclosure.{run-encloses}
 use Rattle.formulas.proofs.Covering.{CoveredRun, run-covers}
-use Rattle.formulas.proofs.Fitting.{let-in, ball-fit, balls-even, ball-many}
+use Rattle.formulas.proofs.Judging.{Fit}
+use Rattle.formulas.proofs.Fitting.{let-in, let-through, ball-fit, balls-even, ball-many}
 use Rattle.formulas.proofs.Lawful.{plain-lawful, matryoshka-lawful}
 use Rattle.packed.specs.Meaning.{formula}
 use Rattle.demands.specs.Demands.{Chosen, exact-outputs, InDomain, LongEnough, WithinStray, stray-plus-margin, Admitted}
 use Rattle.demands.proofs.Answering.{picked, Answers, answers, all-made, outputs-stand, AnswersWith, answers-with}
-use Rattle.demands.proofs.Nearness.{near-covered, near-tested}
+use Rattle.demands.proofs.Nearness.{near-covered, near-fit}
 
 -- a ball's centre with the margin of what covers it still contains what the ball contains
 covering-margins : (F : ℕ) {ms : List Matryoshka} {bs : List Ball} {xs : List Fraction} → Rel Covers ms bs → Rel (Contains F) bs xs
@@ -78,21 +78,20 @@ module _ {s : List ℕ} {d : Domain} {old new : Lent matryoshka-kind} {n : ℕ} 
   abbrev os : List ℕ
   os = a .on .formula .results
 
-  let-through : (domain-tested (a .on .formula .header .inputs) d ≡ true) × (matryoshki (d .middles) (map natAbs (d .strays)) (map natAbs (d .margins)) ≡ a .on .values)
-  let-through =
-      let-in (domain-tested (a .on .formula .header .inputs) d) (matryoshki (d .middles) (map natAbs (d .strays)) (map natAbs (d .margins))) (a .started .fits)
+  was-let-in : Fit (a .on .formula .header .inputs) (domain-brought d) × (matryoshki (d .middles) (map natAbs (d .strays)) (map natAbs (d .margins)) ≡ a .on .values)
+  was-let-in = let-in matryoshka-kind (a .on .formula .header .inputs) d (a .started .fits)
 
   module _ {g : BallReadings} (w : InDomain d g) where
     abbrev readings : List Ball
     readings = balls (g .centres) (map natAbs (g .margins))
 
-    tested : (plain-tested (a .on .formula .header .inputs) (g .centres) ≡ true) × (ball-tested (a .on .formula .header .inputs) g ≡ true)
-    tested = near-tested (a .on .formula .header .inputs) w (let-through .0)
+    fit : Fit (a .on .formula .header .inputs) (plain-brought (g .centres)) × Fit (a .on .formula .header .inputs) (balls-brought g)
+    fit = near-fit w (was-let-in .0)
 
     -- the ball run that the admission covers
     covers : CoveredRun F (a .on .formula .program) readings (a .made)
     covers =
-        run-covers F no-matryoshka (a .on .formula .program) (subst (λ (ms : List Matryoshka). Rel Covers ms readings) (let-through .1) (near-covered w))
+        run-covers F no-matryoshka (a .on .formula .program) (subst (λ (ms : List Matryoshka). Rel Covers ms readings) (was-let-in .1) (near-covered w))
         (subst (λ (m : ℕ). Each Smaller m (a .on .formula .program)) (sym (matryoshka-lawful .tested-values (a .on .formula .header .inputs) d (a .started .fits) .many))
         (a .well .operands-smaller))
         (a .finishes)
@@ -103,16 +102,16 @@ module _ {s : List ℕ} {d : Domain} {old new : Lent matryoshka-kind} {n : ℕ} 
     bare : run (plain-rule F) (pos 0) (a .on .formula .program) (g .centres) ≡ finished (centres-of (covers .made))
     bare =
         ap (λ (l : List ℤ). run (plain-rule F) (pos 0) (a .on .formula .program) l)
-        (sym (balls-centres (g .centres) (map natAbs (g .margins)) (balls-even (ball-fit (a .on .formula .header .inputs) g (tested .1)))))
+        (sym (balls-centres (g .centres) (map natAbs (g .margins)) (balls-even (ball-fit g (fit .1)))))
         ∙ covers .plain-finishes
 
     plain-answers : (lent : Lent plain-kind) {after : Lent plain-kind} (r : Reply) → LongEnough plain-kind (a .on .formula .header) lent
         → Kept plain-kind (formula s) (g .centres) lent after r → AnswersWith plain-kind (a .on .formula) (centres-of (covers .made)) lent after r n
-    plain-answers lent r u k = answers-with plain-kind s r (a .started .means) (ap (λ (t : Bool). if-fit t (g .centres)) (tested .0)) u bare (a .as-many) k
+    plain-answers lent r u k = answers-with plain-kind s r (a .started .means) (let-through plain-kind (a .on .formula .header .inputs) (g .centres) (fit .0)) u bare (a .as-many) k
 
     ball-answers : (lent : Lent ball-kind) {after : Lent ball-kind} (r : Reply) → LongEnough ball-kind (a .on .formula .header) lent
         → Kept ball-kind (formula s) g lent after r → AnswersWith ball-kind (a .on .formula) (covers .made) lent after r n
-    ball-answers lent r u k = answers-with ball-kind s r (a .started .means) (ap (λ (t : Bool). if-fit t readings) (tested .1)) u (covers .balls-finish) (a .as-many) k
+    ball-answers lent r u k = answers-with ball-kind s r (a .started .means) (let-through ball-kind (a .on .formula .header .inputs) g (fit .1)) u (covers .balls-finish) (a .as-many) k
 
     -- the bare answers are the centres of the covered outputs
     each-centre : (ps : List ℕ) → picked (pos 0) (centres-of (covers .made)) ps ≡ centres-of (picked no-ball (covers .made) ps)
@@ -144,7 +143,7 @@ module _ {s : List ℕ} {d : Domain} {old new : Lent matryoshka-kind} {n : ℕ} 
     enclosed-outputs c x =
         rel-picked no-ball nought
         (run-encloses F no-ball (a .on .formula .program) c
-        (subst (λ (m : ℕ). Each Smaller m (a .on .formula .program)) (sym (ball-many (ball-fit (a .on .formula .header .inputs) g (tested .1)))) (a .well .operands-smaller))
+        (subst (λ (m : ℕ). Each Smaller m (a .on .formula .program)) (sym (ball-many (ball-fit g (fit .1)))) (a .well .operands-smaller))
         (covers .balls-finish) x)
         (a .well .results-below) (omega (arith, all-covered))
 

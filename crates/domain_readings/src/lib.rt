@@ -1,50 +1,39 @@
 // The domain a caller brings to the admit job: tested as readings are, and copied, three lists at once.
-ghost use mathlib.Core.Path.{_≡_};
 ghost use Rattle.rules.specs.Lists.{matryoshka-lists};
-ghost use Rattle.formulas.specs.Readings.{matryoshka-fits, domain, domain-tested};
+ghost use Rattle.formulas.specs.Readings.{domain, domain-brought};
+ghost use Rattle.readings.specs.Judges.{JudgesAll};
 ghost use Rattle.domain_readings.specs.Copying.{Copyable, CopiesDomain};
 use lists::copy_numbers;
 use lists::copy_sizes;
-use whole::magnitude;
-
-// Whether (c, s, r) is a matryoshka.
-fn matryoshka_fits(c: i64, s: i64, r: i64) -> bool
-    ensures { λ t. ⌜ t ≡ matryoshka-fits c s r ⌝ }
-{
-    if s < 0 {
-        return false;
-    }
-    if r < 0 {
-        return false;
-    }
-    rounding::within(magnitude(c), magnitude(s), magnitude(r))
-}
+use readings::judge;
+use refusals::Refusal;
+use refusals::Verdict;
 
 // Whether these are m matryoshki.
-pub fn admit_readings(middles: &[i64], strays: &[i64], margins: &[i64], m: usize) -> bool
-    ensures { λ r. ⌜ r ≡ domain-tested m (domain (now (middles .entry)) (now (strays .entry)) (now (margins .entry)))
-        ⌝ }
+pub fn admit_readings(middles: &[i64], strays: &[i64], margins: &[i64], m: usize) -> Verdict
+    ensures { λ v. ⌜ JudgesAll m
+        (domain-brought (domain (now (middles .entry)) (now (strays .entry)) (now (margins .entry)))) v ⌝ }
 {
     if middles.len() != m {
-        return false;
+        return Verdict::Refused(Refusal::ReadingCount, 0);
     }
     if strays.len() != m {
-        return false;
+        return Verdict::Refused(Refusal::ReadingCount, 0);
     }
     if margins.len() != m {
-        return false;
+        return Verdict::Refused(Refusal::ReadingCount, 0);
     }
     let mut i = 0;
     while i < m {
         let c = middles[i];
         let s = strays[i];
         let r = margins[i];
-        if !matryoshka_fits(c, s, r) {
-            return false;
+        if let Verdict::Refused(q, k) = judge(c, s, r, i) {
+            return Verdict::Refused(q, k);
         }
         i = i + 1;
     }
-    true
+    Verdict::Passed
 }
 
 // The domain, to the front of the work lists.

@@ -1,4 +1,4 @@
--- A job of any kind gives refusals 10 and 11 exactly when document 01's table says, and no number beyond. Assumes nothing.
+-- A job of any kind gives refusals 10, 11 and 13 to 15 exactly when the documents say, and no number beyond. Assumes nothing.
 use mathlib.Core.Path.{_≡_, refl, sym, _∙_, ap, subst, subst₂}
 use mathlib.Core.Bool.{Bool, true, false, cond, _&&_}
 use mathlib.Core.List.{List, [], _∷_, _++_}
@@ -11,8 +11,9 @@ use lib.ListN.{length}
 use Rattle.lists.specs.Over.{least}
 use Rattle.lists.proofs.Over.{least-both}
 use Rattle.refusals.specs.Answer.{Answer, value, refused, then}
+use Rattle.refusals.specs.Places.{Where, Placed, refused-at, elsewhere, HasPlace}
 use Rattle.refusals.specs.Said.{refuses}
-use Rattle.refusals.proofs.Answers.{no-value, refused-same, then-value}
+use Rattle.refusals.proofs.Answers.{no-value, refused-same, then-value, then-refused}
 use Rattle.refusals.proofs.OneReply.{never-both, first-said, place-said}
 use Rattle.rules.specs.Operation.{Operation}
 use Rattle.rules.specs.Steps.{within-reach}
@@ -21,9 +22,13 @@ use Rattle.formulas.specs.declared.Header.{Header}
 use Rattle.formulas.specs.declared.Instruction.{Instruction}
 use Rattle.formulas.specs.Formula.{Formula, places}
 use Rattle.formulas.specs.Run.{Walk, finished, stopped, with-values, onward, run}
-use Rattle.formulas.specs.Kinds.{Kind, plain-kind, ball-kind, matryoshka-kind}
+use Rattle.formulas.specs.Readings.{Reading, judged, readings-tested}
+use Rattle.formulas.specs.Kinds.{Kind, plain-kind, ball-kind, matryoshka-kind, tested}
 use Rattle.formulas.specs.Job.{Started, roomy, if-room, start, walk-ended, started-run, job, said, Lent, lent-job}
-use Rattle.formulas.specs.GivenInRuns.{Terms, plain-terms, ball-terms, matryoshka-terms, Passed, OneUnder, NoRoom, work-short, output-short, OutOfReach, GivenInRun, ten, eleven}
+use Rattle.formulas.specs.GivenInRuns.{Terms, plain-terms, ball-terms, matryoshka-terms, Lowest, Read, Passed, OneUnder, NoRoom, work-short, output-short, OutOfReach, Counted, GivenInRun, thirteen, fourteen, fifteen, ten, eleven, JobNumber}
+use Rattle.formulas.proofs.Judging.{Judgement, good, negative, too-large, judgement, not-bad, judged-good, good-judged, negative-judged, large-judged}
+use Rattle.formulas.proofs.Judging.{RefusedAt, refused-lowest, each-counted, none-other, miscounted, counted-tested, Unfit, other-count, bad-reading}
+use Rattle.formulas.proofs.Fitting.{not-let-in, not-let-in-number}
 use Rattle.formulas.proofs.Lawful.{Lawful}
 use Rattle.formulas.proofs.Walks.{never-stopped, same-values, run-long}
 use Rattle.formulas.proofs.Jobs.{Starts, starts, start-is, job-refused, job-started}
@@ -166,35 +171,39 @@ module _ {K : Kind} {T : Terms K} (law : Lawful K) (refusing : Refusing K T) (a 
   begun f vs = record { formula = f; values = vs }
 
   -- before any step
-  data NotStarted (n : ℕ) : Type 0 where
-    by-bytes : a ≡ refused n → NotStarted n
-    by-readings : (f : Formula) → K .tested (f .header .inputs) given ≡ refused n → NotStarted n
-    by-room : (p : Passed K a given) → Short (p .formula .header) work output → n ≡ 10 → NotStarted n
+  data NotStarted (w : Where) : Type 0 where
+    by-bytes : a ≡ refused (w .number) → 0 ≡ w .place → NotStarted w
+    by-readings : (r : Read a) → tested K (r .formula .header .inputs) given ≡ refused w → NotStarted w
+    by-room : (p : Passed K a given) → Short (p .formula .header) work output → 10 ≡ w .number → 0 ≡ w .place → NotStarted w
 
-  not-started : {n : ℕ} → start K a given work output ≡ refused n → NotStarted n
+  not-started : {w : Where} → start K a given work output ≡ refused w → NotStarted w
   unfolding start
-  not-started {n} e = by-formula a refl e
+  not-started {w} e = by-formula a refl e
     where
       of-room : (p : Passed K a given) (t : Bool) → roomy (p .formula .header) work output ≡ t
-          → if-room t (begun (p .formula) (p .values)) ≡ refused n → NotStarted n
+          → elsewhere (if-room t (begun (p .formula) (p .values))) ≡ refused w → NotStarted w
       of-room p true u e = absurd (no-value (sym e))
-      of-room p false u e = by-room p (lacking (p .formula .header) work output u) (sym (refused-same e))
+      of-room p false u e =
+          let same = refused-same e in
+          by-room p (lacking (p .formula .header) work output u) (ap (λ (v : Where). v .number) same) (ap (λ (v : Where). v .place) same)
 
-      by-tested : (f : Formula) → a ≡ value f → (b : Answer (List (K .Value))) → K .tested (f .header .inputs) given ≡ b
-          → then b (λ vs. if-room (roomy (f .header) work output) (begun f vs)) ≡ refused n → NotStarted n
-      by-tested f u (refused m) v e = by-readings f (v ∙ ap refused (refused-same e))
-      by-tested f u (value vs) v e =
-          of-room (record { formula = f; means = u; values = vs; fits = v }) (roomy (f .header) work output) refl e
+      by-tested : (f : Formula) → a ≡ value f → (b : Placed (List (K .Value))) → tested K (f .header .inputs) given ≡ b
+          → then b (λ vs. elsewhere (if-room (roomy (f .header) work output) (begun f vs))) ≡ refused w → NotStarted w
+      by-tested f u (refused v) t e = by-readings (record { formula = f; means = u }) (t ∙ ap refused (refused-same e))
+      by-tested f u (value vs) t e =
+          of-room (record { formula = f; means = u; values = vs; fits = t }) (roomy (f .header) work output) refl e
 
       by-formula : (b : Answer Formula) → a ≡ b
-          → then b (λ f. then (K .tested (f .header .inputs) given) (λ vs. if-room (roomy (f .header) work output) (begun f vs)))
-          ≡ refused n → NotStarted n
-      by-formula (refused m) u e = by-bytes (u ∙ ap refused (refused-same e))
-      by-formula (value f) u e = by-tested f u (K .tested (f .header .inputs) given) refl e
+          → then (elsewhere b) (λ f. then (tested K (f .header .inputs) given) (λ vs. elsewhere (if-room (roomy (f .header) work output) (begun f vs))))
+          ≡ refused w → NotStarted w
+      by-formula (refused m) u e =
+          let same = refused-same e in
+          by-bytes (u ∙ ap (λ (v : Where). refused (v .number)) same) (ap (λ (v : Where). v .place) same)
+      by-formula (value f) u e = by-tested f u (tested K (f .header .inputs) given) refl e
 
   -- or at a step, by 11
   data Why (n k : ℕ) : Type 0 where
-    early : NotStarted n → 0 ≡ k → Why n k
+    early : NotStarted (record { number = n; place = k }) → Why n k
     at-step : (st : Started K) → Starts K a given work output st → OutOfReach K T (st .formula) (st .values) k → 11 ≡ n → Why n k
 
   why : {n k : ℕ} → said (job K a given work output) ≡ refuses n k → Why n k
@@ -222,28 +231,75 @@ module _ {K : Kind} {T : Terms K} (law : Lawful K) (refusing : Refusing K T) (a 
             too-far = r .1;
           }) (sym (r .0) ∙ ap first-said e)
 
-      by-start : (b : Answer (Started K)) → start K a given work output ≡ b → Why n k
-      by-start (refused m) u =
+      by-start : (b : Placed (Started K)) → start K a given work output ≡ b → Why n k
+      by-start (refused w) u =
           let q = sym (ap said (job-refused K a given work output u)) ∙ e in
-          early (subst NotStarted (ap first-said q) (not-started u)) (ap place-said q)
+          early (subst₂ (λ (n k : ℕ). NotStarted (record { number = n; place = k })) (ap first-said q) (ap place-said q) (not-started u))
       by-start (value st) u =
           of-walk st (starts K a given work output u) (started-run K st) refl (sym (ap said (job-started K a given work output u)) ∙ e)
 
-  -- where reading gives only 1 to 8, no number is over 11
-  pub job-last : {n k : ℕ} → ((m : ℕ) → a ≡ refused m → m ≤ 8) → said (job K a given work output) ≡ refuses n k → n ≤ 11
+  -- where reading gives only 1 to 8
+  pub job-last : {n k : ℕ} → ((m : ℕ) → a ≡ refused m → m ≤ 8) → said (job K a given work output) ≡ refuses n k → JobNumber n
   job-last {n} {k} few e = by-why (why e)
     where
-      by-why : Why n k → n ≤ 11
-      by-why (early (by-bytes u) z) = omega (arith, few n u)
-      by-why (early (by-readings f u) z) = omega (arith, law .tested-refused (f .header .inputs) given u)
-      by-why (early (by-room p s t) z) = omega arith
-      by-why (at-step st s o t) = omega arith
+      numbered : (n ≡ 9 → ⊥) → (n ≡ 12 → ⊥) → n ≤ 15 → JobNumber n
+      numbered p q r = record { not-nine = p; not-twelve = q; most = r }
 
-  without-room : (p : Passed K a given) → Short (p .formula .header) work output → start K a given work output ≡ refused 10
+      by-why : Why n k → JobNumber n
+      by-why (early (by-bytes u z)) = let l = few n u in numbered (λ z. omega arith) (λ z. omega arith) (omega arith)
+      by-why (early (by-readings r u)) =
+          let t = not-let-in-number K (r .formula .header .inputs) given u in
+          numbered (λ z. omega (arith, t .from-13)) (λ z. omega (arith, t .from-13)) (omega (arith, t .to-15))
+      by-why (early (by-room p s t z)) = let i : 10 ≡ n = t in numbered (λ z. omega arith) (λ z. omega arith) (omega arith)
+      by-why (at-step st s o t) = numbered (λ z. omega arith) (λ z. omega arith) (omega arith)
+
+  -- "Every other refusal has place 0."
+  pub every-other-place : {n k : ℕ} → said (job K a given work output) ≡ refuses n k → (HasPlace n → ⊥) → k ≡ 0
+  every-other-place {n} {k} e d = by-why (why e)
+    where
+      by-judgement : {b : Answer (Unit {0})} {g : Reading} → Judgement g b → b ≡ refused n → k ≡ 0
+      by-judgement (good f u) r = absurd (no-value (sym (sym u ∙ r)))
+      by-judgement (negative m u) r = absurd (d (subst HasPlace (refused-same (sym u ∙ r)) HasPlace.negative))
+      by-judgement (too-large s l u) r = absurd (d (subst HasPlace (refused-same (sym u ∙ r)) HasPlace.too-large))
+
+      by-reading : (r : Read a) → Unfit (r .formula .header .inputs) (K .brought given) (record { number = n; place = k }) → k ≡ 0
+      by-reading r (other-count o p q) = q
+      by-reading r (bad-reading c x) = by-judgement (judgement (K .brought given .reading-at k)) (x .refuses)
+
+      by-why : Why n k → k ≡ 0
+      by-why (early (by-bytes u z)) = sym z
+      by-why (early (by-readings r u)) = by-reading r (not-let-in K (r .formula .header .inputs) given u)
+      by-why (early (by-room p s t z)) = sym z
+      by-why (at-step st s o t) = absurd (d (subst HasPlace t HasPlace.instruction))
+
+  without-room : (p : Passed K a given) → Short (p .formula .header) work output → start K a given work output ≡ refused-at 10 0
   unfolding start
   without-room p r =
-      then-value _ (p .means) ∙ then-value _ (p .fits)
-      ∙ ap (λ (t : Bool). if-room t (begun (p .formula) (p .values))) (short (p .formula .header) work output r)
+      then-value _ (ap elsewhere (p .means)) ∙ then-value _ (p .fits)
+      ∙ ap (λ (t : Bool). elsewhere (if-room t (begun (p .formula) (p .values)))) (short (p .formula .header) work output r)
+
+  -- readings that are refused
+  misread : (r : Read a) {w : Where} → readings-tested (r .formula .header .inputs) (K .brought given) ≡ refused w
+      → said (job K a given work output) ≡ refuses (w .number) (w .place)
+  unfolding start
+  misread r e =
+      ap said
+      (job-refused K a given work output
+      (then-value _ (ap elsewhere (r .means)) ∙ then-refused _ (then-refused (λ x. value (K .values given)) e)))
+
+  bad-at : (r : Read a) → Counted K (r .formula) given → {n k : ℕ} → Lowest (r .formula .header .inputs) (K .brought given .reading-at) k
+      → judged (K .brought given .reading-at k) ≡ refused n → said (job K a given work output) ≡ refuses n k
+  bad-at r c {n} {k} low e =
+      let m = r .formula .header .inputs in
+      let g = K .brought given .reading-at in
+      let there : RefusedAt g 0 m (record { number = n; place = k }) =
+      record {
+        from = omega arith;
+        among = omega (arith, low .among);
+        good-before = λ j p l. good-judged (g j) (low .none-before j l);
+        refuses = e;
+      } in
+      misread r (counted-tested m (K .brought given) (each-counted m (K .brought given .counts) c) ∙ refused-lowest g 0 m there)
 
   stopped-run : (p : Passed K a given) {k : ℕ} → (o : OutOfReach K T (p .formula) (p .values) k)
       → started-run K (begun (p .formula) (p .values)) ≡ stopped 11 (o .made)
@@ -263,7 +319,7 @@ module _ {K : Kind} {T : Terms K} (law : Lawful K) (refusing : Refusing K T) (a 
       ap said (job-started K a given work output st)
       ∙ ap (λ w. said (walk-ended (K .nothing) (p .formula) w)) (stopped-run p o) ∙ ap (refuses 11) place
 
--- ---- 10 and 11, of the lent lists
+-- ---- each refusal, of the lent lists
 
 module _ {K : Kind} {T : Terms K} (law : Lawful K) (refusing : Refusing K T) (a : Answer Formula) (given : K .Readings)
     (lent : Lent K) where
@@ -288,6 +344,12 @@ module _ {K : Kind} {T : Terms K} (law : Lawful K) (refusing : Refusing K T) (a 
       at-least d = omega arith
 
   pub given-in-run-refused : {n k : ℕ} → GivenInRun K T a given lent n k → said (lent-job K a given lent) ≡ refuses n k
+  given-in-run-refused (thirteen r o) =
+      misread law refusing a given work output r (miscounted (r .formula .header .inputs) (K .brought given) o)
+  given-in-run-refused (fourteen r c {k} low n) =
+      bad-at law refusing a given work output r c low (negative-judged (K .brought given .reading-at k) n)
+  given-in-run-refused (fifteen r c {k} low d l) =
+      bad-at law refusing a given work output r c low (large-judged (K .brought given .reading-at k) d l)
   given-in-run-refused (ten p r) =
       ap said (job-refused K a given work output (without-room law refusing a given work output p (has-short r)))
   given-in-run-refused (eleven p d o) =
@@ -295,7 +357,7 @@ module _ {K : Kind} {T : Terms K} (law : Lawful K) (refusing : Refusing K T) (a 
       at-step-refused law refusing a given work output p (r .0) (r .1) o
 
   -- where reading gives only 1 to 8
-  pub refused-given-in-run : {n k : ℕ} → ((m : ℕ) → a ≡ refused m → m ≤ 8) → 10 ≤ n
+  pub refused-given-in-run : {n k : ℕ} → ((m : ℕ) → a ≡ refused m → m ≤ 8) → 9 ≤ n
       → said (lent-job K a given lent) ≡ refuses n k → GivenInRun K T a given lent n k
   refused-given-in-run {n} {k} few l e = by-why (why law refusing a given work output e)
     where
@@ -303,10 +365,31 @@ module _ {K : Kind} {T : Terms K} (law : Lawful K) (refusing : Refusing K T) (a 
       both-short h p q (inl l) = omega arith
       both-short h p q (inr l) = omega arith
 
+      by-reading : (r : Read a) → Unfit (r .formula .header .inputs) (K .brought given) (record { number = n; place = k })
+          → GivenInRun K T a given lent n k
+      by-reading r (other-count o p q) = subst₂ (GivenInRun K T a given lent) (sym p) (sym q) (thirteen r o)
+      by-reading r (bad-reading c x) = by-judgement (judgement (K .brought given .reading-at k))
+        where
+          g : ℕ → Reading
+          g = K .brought given .reading-at
+
+          low : Lowest (r .formula .header .inputs) g k
+          low = record { among = omega (arith, x .among); none-before = λ j l. not-bad (judged-good (g j) (x .good-before j (omega arith) l)) }
+
+          counted : Counted K (r .formula) given
+          counted = none-other (r .formula .header .inputs) c
+
+          by-judgement : Judgement (g k) (judged (g k)) → GivenInRun K T a given lent n k
+          by-judgement (good f u) = absurd (no-value (sym (x .refuses) ∙ u))
+          by-judgement (negative b u) =
+              subst (λ (m : ℕ). GivenInRun K T a given lent m k) (refused-same (sym u ∙ x .refuses)) (fourteen r counted low b)
+          by-judgement (too-large s b u) =
+              subst (λ (m : ℕ). GivenInRun K T a given lent m k) (refused-same (sym u ∙ x .refuses)) (fifteen r counted low s b)
+
       by-why : Why law refusing a given work output n k → GivenInRun K T a given lent n k
-      by-why (early (by-bytes u) z) = absurd (omega (arith, few n u))
-      by-why (early (by-readings f u) z) = absurd (omega (arith, law .tested-refused (f .header .inputs) given u))
-      by-why (early (by-room p s t) z) = subst₂ (GivenInRun K T a given lent) (sym t) z (ten p (no-room s))
+      by-why (early (by-bytes u z)) = absurd (omega (arith, few n u))
+      by-why (early (by-readings r u)) = by-reading r (not-let-in K (r .formula .header .inputs) given u)
+      by-why (early (by-room p s t z)) = subst₂ (GivenInRun K T a given lent) t z (ten p (no-room s))
       by-why (at-step st s o t) =
           let p : Passed K a given = record { formula = st .formula; means = s .means; values = st .values; fits = s .fits } in
           subst (λ (m : ℕ). GivenInRun K T a given lent m k) t

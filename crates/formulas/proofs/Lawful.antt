@@ -10,8 +10,7 @@ use Rattle.lists.specs.Over.{least}
 use Rattle.lists.specs.All.{All}
 use Rattle.lists.proofs.Over.{least-both}
 use Rattle.lists.proofs.PartOf.{itself, part-start, part-again, part-front, part-long}
-use Rattle.refusals.specs.declared.Refusal.the-variants.{Readings, OutOfReach}
-use Rattle.refusals.specs.Refusals.{refusal-number}
+use Rattle.refusals.specs.Refusals.{AtStep}
 use Rattle.refusals.specs.Answer.{value, refused}
 use Rattle.rules.specs.Operation.{Operation}
 use Rattle.rules.specs.Lists.{BallLists, MatryoshkaLists}
@@ -22,9 +21,8 @@ use Rattle.rules.specs.Matryoshki.{matryoshka-result}
 use Rattle.rules.proofs.Reach.{reach-refused, plain-legal, ball-legal, matryoshka-legal}
 use Rattle.rules.proofs.Lists.{balls-many, balls-start, balls-one, balls-front, balls-over, centres-as-long, margins-as-long}
 use Rattle.rules.proofs.Lists.{matryoshki-many, matryoshki-start, matryoshki-one, matryoshki-front, matryoshki-over, middles-as-long, strays-as-long, static-as-long}
-use Rattle.formulas.specs.Kinds.{Kind, plain-kind, ball-kind, matryoshka-kind}
-use Rattle.formulas.specs.Readings.{plain-tested, ball-tested, domain-tested}
-use Rattle.formulas.proofs.Fitting.{let-in, not-let-in, plain-fit, ball-fit, ball-many, ball-all, domain-fit, domain-many, domain-all}
+use Rattle.formulas.specs.Kinds.{Kind, plain-kind, ball-kind, matryoshka-kind, tested}
+use Rattle.formulas.proofs.Fitting.{let-in, plain-fit, ball-fit, ball-many, domain-fit, domain-many}
 
 -- as many values as were asked for, each legal
 pub record Values (K : Kind) (m : ℕ) (vs : List (K .Value)) : Type 0 where
@@ -33,10 +31,8 @@ pub record Values (K : Kind) (m : ℕ) (vs : List (K .Value)) : Type 0 where
 
 pub record Lawful (K : Kind) : Type 0 where
   pub rule-legal : (F : ℕ) (o : Operation (K .Value)) {v : K .Value} → K .rule F o ≡ value v → K .Legal v
-  -- a step gives none of the refusals 1 to 10
-  pub rule-late : (F : ℕ) (o : Operation (K .Value)) {n : ℕ} → K .rule F o ≡ refused n → 10 < n
-  pub tested-values : (m : ℕ) (g : K .Readings) {vs : List (K .Value)} → K .tested m g ≡ value vs → Values K m vs
-  pub tested-refused : (m : ℕ) (g : K .Readings) {n : ℕ} → K .tested m g ≡ refused n → n ≡ refusal-number Readings
+  pub rule-refused : (F : ℕ) (o : Operation (K .Value)) {n : ℕ} → K .rule F o ≡ refused n → AtStep n
+  pub tested-values : (m : ℕ) (g : K .Readings) {vs : List (K .Value)} → tested K m g ≡ value vs → Values K m vs
   pub front-many : (n : ℕ) (l : K .Lists) → n ≤ K .room l → length (K .front n l) ≡ n
   pub holds-none : (l : K .Lists) → K .Holds [] l l
   pub holds-front : (n : ℕ) (l : K .Lists) → n ≤ K .room l → K .Holds (K .front n l) l l
@@ -46,17 +42,13 @@ pub record Lawful (K : Kind) : Type 0 where
   pub room-holds : (vs : List (K .Value)) (old now : K .Lists) → length vs ≤ K .room old → K .Holds vs old now → K .room now ≡ K .room old
   pub holds-one : (vs : List (K .Value)) (old a b : K .Lists) → K .Holds vs old a → K .Holds vs old b → a ≡ b
 
-late : {n : ℕ} → n ≡ refusal-number OutOfReach → 10 < n
-late e = omega arith
-
 pub plain-lawful : Lawful plain-kind
 plain-lawful =
     record {
       rule-legal = plain-legal;
-      rule-late = λ F o e. late (reach-refused plain-reach (plain-result F o) e .0);
-      tested-values = λ m g e. let t = let-in (plain-tested m g) g e in let f = plain-fit m g (t .0) in
+      rule-refused = λ F o e. reach-refused plain-reach (plain-result F o) e .0;
+      tested-values = λ m g e. let t = let-in plain-kind m g e in let f = plain-fit g (t .0) in
           record { many = ap length (sym (t .1)) ∙ f .many; legal = subst (All _) (t .1) (f .legal) };
-      tested-refused = λ m g e. not-let-in (plain-tested m g) g e;
       front-many = λ n l p. length-take-le n l p;
       holds-none = λ l. refl;
       holds-front = λ n l p. part-start (itself (pos 0)) (take n l) l (length-take-le n l p) refl;
@@ -74,10 +66,9 @@ pub ball-lawful : Lawful ball-kind
 ball-lawful =
     record {
       rule-legal = ball-legal;
-      rule-late = λ F o e. late (reach-refused ball-reach (ball-result F o) e .0);
-      tested-values = λ m g e. let t = let-in (ball-tested m g) _ e in let f = ball-fit m g (t .0) in
-          record { many = ap length (sym (t .1)) ∙ ball-many f; legal = subst (All _) (t .1) (ball-all f) };
-      tested-refused = λ m g e. not-let-in (ball-tested m g) _ e;
+      rule-refused = λ F o e. reach-refused ball-reach (ball-result F o) e .0;
+      tested-values = λ m g e. let t = let-in ball-kind m g e in let f = ball-fit g (t .0) in
+          record { many = ap length (sym (t .1)) ∙ ball-many f; legal = subst (All _) (t .1) (f .legal) };
       front-many = λ n l p. let r = ball-room l p in balls-many n (l .centres) (l .margins) (r .0) (r .1);
       holds-none = λ l. record { centres-hold = refl; margins-hold = refl };
       holds-front = λ n l p. let r = ball-room l p in balls-start n l (r .0) (r .1);
@@ -102,10 +93,9 @@ pub matryoshka-lawful : Lawful matryoshka-kind
 matryoshka-lawful =
     record {
       rule-legal = matryoshka-legal;
-      rule-late = λ F o e. late (reach-refused matryoshka-reach (matryoshka-result F o) e .0);
-      tested-values = λ m g e. let t = let-in (domain-tested m g) _ e in let f = domain-fit m g (t .0) in
-          record { many = ap length (sym (t .1)) ∙ domain-many f; legal = subst (All _) (t .1) (domain-all f) };
-      tested-refused = λ m g e. not-let-in (domain-tested m g) _ e;
+      rule-refused = λ F o e. reach-refused matryoshka-reach (matryoshka-result F o) e .0;
+      tested-values = λ m g e. let t = let-in matryoshka-kind m g e in let f = domain-fit g (t .0) in
+          record { many = ap length (sym (t .1)) ∙ domain-many f; legal = subst (All _) (t .1) (f .legal) };
       front-many = λ n l p. let r = matryoshka-room l p in
           matryoshki-many n (l .middles) (l .strays) (l .margins) (r .for-middles) (r .for-strays) (r .for-margins);
       holds-none = λ l. record { middles-hold = refl; strays-hold = refl; margins-hold = refl };

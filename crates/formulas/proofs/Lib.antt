@@ -3,7 +3,9 @@ pub mod Walks
 pub mod Relations
 pub mod Enclosure
 pub mod Covering
+pub mod Judging
 pub mod Fitting
 pub mod Lawful
 pub mod Jobs
 pub mod GivenInRuns
+pub mod ReadingFigures

@@ -1,9 +1,10 @@
 -- Document 01, "Numbered replies and their order", the column "Given exactly when", for refusals 10 and 11 of a job of
--- any kind.
+-- any kind, and request c's words for 13, 14 and 15.
 use mathlib.Core.Path.{_≡_}
 use mathlib.Core.List.{List, [], _∷_, _++_}
 use mathlib.Core.Logic.{_⊎_}
-use Prim.Native.Nat.{ℕ, _<_}
+use Prim.Native.Nat.{ℕ, _≤_, _<_}
+use lib.IntN.{ℤ, pos, negsuc}
 use lib.ListN.{length}
 use Rattle.refusals.specs.Answer.{Answer, value}
 use Rattle.rules.specs.Numbers.{M}
@@ -16,7 +17,8 @@ use Rattle.formulas.specs.declared.Header.{Header}
 use Rattle.formulas.specs.declared.Instruction.{Instruction}
 use Rattle.formulas.specs.Formula.{Formula, places}
 use Rattle.formulas.specs.Run.{finished, with-values, run}
-use Rattle.formulas.specs.Kinds.{Kind, plain-kind, ball-kind, matryoshka-kind}
+use Rattle.formulas.specs.Readings.{Reading, reading-reach}
+use Rattle.formulas.specs.Kinds.{Kind, plain-kind, ball-kind, matryoshka-kind, tested}
 use Rattle.formulas.specs.Job.{Lent}
 
 -- what the table's words say of a kind: a step's result, how far it reaches, and how many places each lent list has
@@ -44,12 +46,42 @@ matryoshka-terms =
       lengths = λ l. length (l .middles) ∷ length (l .strays) ∷ length (l .margins) ∷ [];
     }
 
--- "Then 9, 10, 11": the bytes are a formula and the readings pass, so none of 1 to 9 is given
+-- "13 wrong number of readings": one of the lists that carry them has not m
+abbrev pub OneOther : ℕ → List ℕ → Type 0
+OneOther m [] = ⊥
+OneOther m (n ∷ ns) = (n ≡ m → ⊥) ⊎ OneOther m ns
+
+-- "14 if a stray or margin is negative"
+abbrev pub BelowZero : ℤ → Type 0
+BelowZero (pos n) = ⊥
+BelowZero (negsuc n) = Unit
+
+abbrev pub Negative : Reading → Type 0
+Negative g = BelowZero (g .stray) ⊎ BelowZero (g .margin)
+
+-- "15 for reach or size"
+abbrev pub TooLarge : Reading → Type 0
+TooLarge g = M < reading-reach g
+
+abbrev pub Bad : Reading → Type 0
+Bad g = Negative g ⊎ TooLarge g
+
+-- "the lowest": no reading before it is bad
+pub record Lowest (m : ℕ) (g : ℕ → Reading) (k : ℕ) : Type 0 where
+  pub among : k < m
+  pub none-before : (j : ℕ) → j < k → Bad (g j) → ⊥
+
+-- the bytes are a formula, so none of 1 to 8 is given
+pub record Read (a : Answer Formula) : Type 0 where
+  pub formula : Formula
+  pub means : a ≡ value formula
+
+-- the bytes are a formula and the readings pass, so none of 1 to 8 and of 13 to 15 is given
 pub record Passed (K : Kind) (a : Answer Formula) (given : K .Readings) : Type 0 where
   pub formula : Formula
   pub means : a ≡ value formula
   pub values : List (K .Value)
-  pub fits : K .tested (formula .header .inputs) given ≡ value values
+  pub fits : tested K (formula .header .inputs) given ≡ value values
 
 -- one of these lists has under n places
 abbrev pub OneUnder : ℕ → List ℕ → Type 0
@@ -72,9 +104,28 @@ pub record OutOfReach (K : Kind) (T : Terms K) (f : Formula) (values : List (K .
   pub carried-out : run (K .rule (f .header .scale)) (K .nothing) earlier values ≡ finished made
   pub too-far : M < T .reach (T .result (f .header .scale) (with-values (K .nothing) made instruction))
 
+-- in each list that carries readings as many as the formula has inputs
+abbrev pub Counted : (K : Kind) → Formula → K .Readings → Type 0
+Counted K f given = OneOther (f .header .inputs) (K .brought given .counts) → ⊥
+
 -- each number's condition, and its place
 pub data GivenInRun (K : Kind) (T : Terms K) (a : Answer Formula) (given : K .Readings)
     (lent : Lent K) : ℕ → ℕ → Type 0 where
+  thirteen : (r : Read a) → OneOther (r .formula .header .inputs) (K .brought given .counts)
+      → GivenInRun K T a given lent 13 0
+  fourteen : (r : Read a) → Counted K (r .formula) given → {k : ℕ}
+      → Lowest (r .formula .header .inputs) (K .brought given .reading-at) k
+      → Negative (K .brought given .reading-at k) → GivenInRun K T a given lent 14 k
+  fifteen : (r : Read a) → Counted K (r .formula) given → {k : ℕ}
+      → Lowest (r .formula .header .inputs) (K .brought given .reading-at) k
+      → (Negative (K .brought given .reading-at k) → ⊥) → TooLarge (K .brought given .reading-at k)
+      → GivenInRun K T a given lent 15 k
   ten : (p : Passed K a given) → NoRoom K T (p .formula .header) lent → GivenInRun K T a given lent 10 0
   eleven : (p : Passed K a given) → (NoRoom K T (p .formula .header) lent → ⊥)
       → {k : ℕ} → OutOfReach K T (p .formula) (p .values) k → GivenInRun K T a given lent 11 k
+
+-- which numbers a job gives: "9 is no longer given", and 12 is the program's own
+pub record JobNumber (n : ℕ) : Type 0 where
+  pub not-nine : n ≡ 9 → ⊥
+  pub not-twelve : n ≡ 12 → ⊥
+  pub most : n ≤ 15

@@ -6,7 +6,8 @@ use Prim.Native.Nat.{ℕ}
 use lib.IntN.{ℤ, pos, natAbs}
 use lib.ListN.{length, take}
 use Rattle.lists.specs.Over.{over, least}
-use Rattle.refusals.specs.Answer.{Answer}
+use Rattle.refusals.specs.Answer.{Answer, value, then}
+use Rattle.refusals.specs.Places.{Placed}
 use Rattle.rules.specs.declared.Ball.{Ball}
 use Rattle.rules.specs.declared.Matryoshka.{Matryoshka}
 use Rattle.rules.specs.Values.{Allowed, IsBall, IsMatryoshka}
@@ -24,7 +25,8 @@ use Rattle.rules.specs.Lists.{
   MatryoshkaLists,
   HoldMatryoshki,
 }
-use Rattle.formulas.specs.Readings.{BallReadings, Domain, plain-tested, ball-tested, domain-tested, if-fit}
+use Rattle.formulas.specs.Readings.{BallReadings, Domain, Brought}
+use Rattle.formulas.specs.Readings.{plain-brought, balls-brought, domain-brought, readings-tested}
 
 pub record Kind : Type 1 where
   pub Value : Type 0
@@ -32,9 +34,10 @@ pub record Kind : Type 1 where
   pub nothing : Value
   pub Legal : Value → Type 0
   pub rule : ℕ → Operation Value → Answer Value
-  -- what a caller brings, and the m values that it stands for, or the refusal
+  -- what a caller brings, as readings that are tested, and the values that they stand for
   pub Readings : Type 0
-  pub tested : ℕ → Readings → Answer (List Value)
+  pub brought : Readings → Brought
+  pub values : Readings → List Value
   -- the lists that a caller lends: how many places each has at least, the first values in them, what they hold after
   -- values were written
   pub Lists : Type 0
@@ -50,7 +53,8 @@ plain-kind =
       Legal = Allowed;
       rule = plain-rule;
       Readings = List ℤ;
-      tested = λ m xs. if-fit (plain-tested m xs) xs;
+      brought = plain-brought;
+      values = λ xs. xs;
       Lists = List ℤ;
       room = length;
       front = take;
@@ -65,7 +69,8 @@ ball-kind =
       Legal = IsBall;
       rule = ball-rule;
       Readings = BallReadings;
-      tested = λ m g. if-fit (ball-tested m g) (balls (g .centres) (map natAbs (g .margins)));
+      brought = balls-brought;
+      values = λ g. balls (g .centres) (map natAbs (g .margins));
       Lists = BallLists;
       room = λ l. least (length (l .centres)) (length (l .margins));
       front = λ n l. balls (take n (l .centres)) (take n (l .margins));
@@ -80,10 +85,14 @@ matryoshka-kind =
       Legal = IsMatryoshka;
       rule = matryoshka-rule;
       Readings = Domain;
-      tested = λ m g. if-fit (domain-tested m g)
-          (matryoshki (g .middles) (map natAbs (g .strays)) (map natAbs (g .margins)));
+      brought = domain-brought;
+      values = λ g. matryoshki (g .middles) (map natAbs (g .strays)) (map natAbs (g .margins));
       Lists = MatryoshkaLists;
       room = λ l. least (length (l .middles)) (least (length (l .strays)) (length (l .margins)));
       front = λ n l. matryoshki (take n (l .middles)) (take n (l .strays)) (take n (l .margins));
       Holds = HoldMatryoshki;
     }
+
+-- the m values of what a caller brings, or the refusal
+abbrev pub tested : (K : Kind) → ℕ → K .Readings → Placed (List (K .Value))
+tested K m given = then (readings-tested m (K .brought given)) (λ x. value (K .values given))

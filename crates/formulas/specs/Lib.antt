@@ -7,3 +7,4 @@ pub mod Kinds
 pub mod Job
 pub mod GivenInRuns
 pub mod ExactRun
+pub mod ReadingFigures

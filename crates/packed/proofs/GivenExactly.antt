@@ -25,7 +25,7 @@ use Rattle.packed.specs.Format.{is-padding}
 use Rattle.formulas.specs.Formula.{Formula}
 use Rattle.formulas.specs.Kinds.{Kind}
 use Rattle.formulas.specs.Job.{job, said, Lent, lent-job}
-use Rattle.formulas.specs.GivenInRuns.{Terms, GivenInRun}
+use Rattle.formulas.specs.GivenInRuns.{Terms, GivenInRun, JobNumber}
 use Rattle.formulas.proofs.Lawful.{Lawful}
 use Rattle.formulas.proofs.GivenInRuns.{Refusing, refused-given-in-run, job-last}
 use Rattle.packed.specs.Meaning.{whole, formula, checked}
@@ -246,11 +246,10 @@ module _ (s : List ℕ) (n : ℕ) (e : formula s ≡ refused n) where
   unread-few = unread-between .1
 
 module _ {K : Kind} {T : Terms K} (law : Lawful K) (refusing : Refusing K T) (s : List ℕ) (given : K .Readings) where
-  -- 10 and 11 are given exactly when the table says; `given-in-run-refused` is the other way
-  pub run-refused-given : (lent : Lent K) {n k : ℕ} → 10 ≤ n → said (lent-job K (formula s) given lent) ≡ refuses n k
+  -- 10, 11 and 13 to 15 are given exactly when the documents say; `given-in-run-refused` is the other way
+  pub run-refused-given : (lent : Lent K) {n k : ℕ} → 9 ≤ n → said (lent-job K (formula s) given lent) ≡ refuses n k
       → GivenInRun K T (formula s) given lent n k
   run-refused-given lent l e = refused-given-in-run law refusing (formula s) given lent (unread-few s) l e
 
-  -- a job refuses by 1 to 11
-  pub job-numbers : (work output : ℕ) {n k : ℕ} → said (job K (formula s) given work output) ≡ refuses n k → n ≤ 11
+  pub job-numbers : (work output : ℕ) {n k : ℕ} → said (job K (formula s) given work output) ≡ refuses n k → JobNumber n
   job-numbers work output e = job-last law refusing (formula s) given work output (unread-few s) e

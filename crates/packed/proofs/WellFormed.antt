@@ -9,7 +9,7 @@ use lib.Dec.{leb, ltb, eqb}
 use borrow.Author.Tests.{leb-true, ltb-true, ltb-false, eqb-false, not-true}
 use lib.IntN.{natAbs}
 use lib.ListN.{length}
-use Rattle.refusals.specs.Answer.{value, refused}
+use Rattle.refusals.specs.Answer.{Answer, value, refused}
 use Rattle.refusals.proofs.Answers.{no-value, same-value, first-of}
 use Rattle.rules.specs.Numbers.{M}
 use Rattle.rules.specs.Values.{Allowed}
@@ -146,7 +146,7 @@ body-gives h limits =
 pub if-value : {f : Formula} (x : Read Formula) → if-padded x ≡ value f → x .got ≡ f
 if-value {f} x e = by-padding (is-padding (x .left)) e
   where
-    by-padding : (t : Bool) → cond t (value (x .got)) (refused 8) ≡ value f → x .got ≡ f
+    by-padding : (t : Bool) → cond {A = Answer Formula} t (value (x .got)) (refused 8) ≡ value f → x .got ≡ f
     by-padding true e = same-value e
     by-padding false e = absurd (no-value e)
 

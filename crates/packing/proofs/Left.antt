@@ -166,7 +166,7 @@ was-read s lent {h} e =
       header-is = sym (same-value (a .then-was)) ∙ ap (λ x. formula-of x .header) (sym r);
     }
   where
-    by-room : (f : Formula) {r : RawFormula} (t : Bool) → cond t (value (raw-formula f)) (refused 10) ≡ value r → raw-formula f ≡ r
+    by-room : (f : Formula) {r : RawFormula} (t : Bool) → cond {A = Answer RawFormula} t (value (raw-formula f)) (refused 10) ≡ value r → raw-formula f ≡ r
     by-room f true v = same-value v
     by-room f false v = absurd (no-value v)
 

@@ -341,7 +341,8 @@ pack-into-written room r {s} e =
     let a = first-of (pack r) (λ f. cond (leb (length (packed-bytes f)) room) (value (packed-bytes f)) (refused 10)) e in
     by-room (a .first) (pack-accepted r (a .was)) (leb (length (packed-bytes (a .first))) room) refl (a .then-was)
   where
-    by-room : (f : Formula) → Accepted r f → (t : Bool) → leb (length (packed-bytes f)) room ≡ t → cond t (value (packed-bytes f)) (refused 10) ≡ value s → Written room r s
+    by-room : (f : Formula) → Accepted r f → (t : Bool) → leb (length (packed-bytes f)) room ≡ t
+        → cond {A = Answer (List ℕ)} t (value (packed-bytes f)) (refused 10) ≡ value s → Written room r s
     by-room f a true u v =
         subst (Written room r) (same-value v)
         (record { holds = f; accepted = a; is = refl; has-room = leb-true (length (packed-bytes f)) room u; bytes = packed-are f; reads-back = read-packed f (a .well-formed) })

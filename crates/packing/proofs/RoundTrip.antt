@@ -67,7 +67,7 @@ packed-read s {f} b e =
     let a = first-of (read whole (bits s)) if-padded e in
     by-padding (a .first) (read-tells (λ ss g. ss ≡ fields-of g) whole whole-tells (bits-are s) (a .was)) (is-padding (a .first .left)) refl (a .then-was)
   where
-    by-padding : (x : Read Formula) → Told (λ ss g. ss ≡ fields-of g) (bits s) x → (t : Bool) → is-padding (x .left) ≡ t → cond t (value (x .got)) (refused 8) ≡ value f
+    by-padding : (x : Read Formula) → Told (λ ss g. ss ≡ fields-of g) (bits s) x → (t : Bool) → is-padding (x .left) ≡ t → cond {A = Answer Formula} t (value (x .got)) (refused 8) ≡ value f
         → bytes-of (slots-bits (fields-of f)) ≡ s
     by-padding x told true p v =
         let z = padding-zeros (told .are) p in

@@ -11,7 +11,6 @@ use Rattle.refusals.specs.declared.Reply.{Reply}
 use Rattle.refusals.specs.declared.Reply.the-variants.{Done}
 use Rattle.bits.specs.declared.Cursor.{Cursor}
 use Rattle.formulas.specs.declared.Header.{Header}
-use Rattle.formulas.specs.Readings.{plain-tested}
 use Rattle.formulas.specs.Run.{made-by}
 use Rattle.formulas.specs.Kinds.{plain-kind}
 use Rattle.formulas.specs.Job.{Lent, lent, Kept}
@@ -29,12 +28,12 @@ module _ {s : List ℕ} {h : Header} {xs work output : List ℤ} (b : Begins pla
   pub plain-copies : length xs ≤ length work
   plain-copies =
       let g = begun-by b in
-      omega (arith, g .work-room, plain-fit (h .inputs) xs (let-in (plain-tested (h .inputs) xs) xs (g .fits) .0) .many)
+      omega (arith, g .work-room, plain-fit xs (let-in plain-kind (h .inputs) xs (g .fits) .0) .many)
 
   copy : {copied : List ℤ} → copied ≡ over xs work → Copied plain-kind s h xs (lent plain-kind work output) copied
   copy e =
       let g = begun-by b in
-      record { begun-on = g; holds = e ∙ ap (λ (l : List ℤ). over l work) (let-in (plain-tested (h .inputs) xs) xs (g .fits) .1) }
+      record { begun-on = g; holds = e ∙ ap (λ (l : List ℤ). over l work) (let-in plain-kind (h .inputs) xs (g .fits) .1) }
 
 -- the facts that share most with a goal come first
 module _ {s : List ℕ} {h : Header} {xs work output copied : List ℤ} where

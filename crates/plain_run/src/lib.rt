@@ -11,15 +11,16 @@ use outputs::pick_numbers;
 use plain_walk::walk;
 use readings::plain_readings;
 use refusals::Reply;
+use running::Start;
 use running::tested;
 use walks::Walked;
 
 // The header of a formula that can be carried out on these readings in lists with so many places, or the refusal.
-fn ready(s: &[u8], readings: &[i64], work: usize, output: usize) -> Checked
+fn ready(s: &[u8], readings: &[i64], work: usize, output: usize) -> Start
     ensures { λ r. ⌜ Ready plain-kind (now (s .entry)) (now (readings .entry)) work output r ⌝ }
 {
     match check(s) {
-        Checked::Refused(r) => Checked::Refused(r),
+        Checked::Refused(r) => Start::Refused(r, 0),
         Checked::Formula(h) => tested(h, plain_readings(readings, h.inputs), work, output),
     }
 }
@@ -57,7 +58,7 @@ pub fn run(s: &[u8], readings: &[i64], work: &mut [i64], output: &mut [i64]) -> 
         (lent plain-kind (now (work .exit)) (now (output .exit))) r ⌝ }
 {
     match ready(s, readings, work.len(), output.len()) {
-        Checked::Refused(r) => Reply::Refused(r, 0),
-        Checked::Formula(h) => carry_out(s, h, readings, work, output),
+        Start::Refused(r, k) => Reply::Refused(r, k),
+        Start::On(h) => carry_out(s, h, readings, work, output),
     }
 }

@@ -1,80 +1,78 @@
--- Readings looked at one by one: all fit where this one and the rest do, and past the last there is none. Assumes nothing.
-use mathlib.Core.Path.{_≡_, sym, _∙_, ap, ap₂}
-use mathlib.Core.Bool.{Bool, true, false, not, _&&_}
-use mathlib.Core.List.{List, _∷_}
-use Prim.Native.Nat.{ℕ, _+_, _^_, _≤_, _<_}
-use native.Mathlib.Numerals.{add-one}
-use borrow.Author.Tests.{eq-eqb, ne-eqb, not-true, not-false}
-use lib.Dec.{eqb}
+-- Readings looked at one by one: what all of them come to, while those before i passed. Assumes nothing.
+use mathlib.Core.Path.{_≡_, refl, sym, _∙_, ap}
+use mathlib.Core.List.{List, []}
+use mathlib.Core.Logic.{_⊎_, inl, inr}
+use Prim.Native.Nat.{ℕ, suc, _+_, _-_, _^_, _≤_, _<_}
+use native.Mathlib.Omega.{arith}
 use lib.IntN.{ℤ, pos}
-use lib.ListN.{length, getD, drop, drop-of-length-le}
-use lib.Seq.{drop-cons}
+use lib.ListN.{length}
 use lib.Signed.{mag}
 use mir.Syntax.{w64}
 use mir.ValLaws.{toZ-ofZ}
+use Rattle.whole.proofs.Cases.{ap₃}
 use Rattle.whole.proofs.Machine.{back}
-use Rattle.formulas.specs.Readings.{plain-fits, ball-fits, matryoshka-fits, all-plain, all-balls, all-matryoshki}
+use Rattle.lists.specs.All.{All, none, one}
+use Rattle.refusals.specs.declared.Refusal.{Refusal}
+use Rattle.refusals.specs.declared.Refusal.the-variants.{ReadingCount}
+use Rattle.refusals.specs.declared.Verdict.{Verdict}
+use Rattle.refusals.specs.declared.Verdict.the-variants.{Passed, Refused}
+use Rattle.refusals.specs.Answer.{value, then}
+use Rattle.refusals.specs.Places.{Placed, at-place, verdict-says}
+use Rattle.refusals.proofs.Answers.{then-value, then-refused}
+use Rattle.formulas.specs.Readings.{Reading, reading, judged, lowest, Brought, readings-tested, number-at}
+use Rattle.formulas.specs.Readings.{ball-readings, domain, plain-brought, balls-brought, domain-brought}
+use Rattle.formulas.specs.GivenInRuns.{OneOther}
+use Rattle.formulas.proofs.Judging.{miscounted, counted-tested}
+use Rattle.readings.specs.Judges.{Judges, JudgesAll}
 
--- a first test that passed leaves the second, one that failed fails both
-pub passed : {t : Bool} (u : Bool) → t ≡ true → t && u ≡ u
-passed u e = ap (λ (b : Bool). b && u) e
+-- what is left to be tested decides
+pub record PassedBefore (m : ℕ) (b : Brought) (i : ℕ) : Type 0 where
+  pub within : i ≤ m
+  pub comes-to : readings-tested m b ≡ lowest (b .reading-at) i (m - i)
 
-pub failed : {t : Bool} (u : Bool) → t ≡ false → t && u ≡ false
-failed u e = ap (λ (b : Bool). b && u) e
+pub wrong-count : {m : ℕ} {b : Brought} → OneOther m (b .counts) → JudgesAll m b (Refused ReadingCount 0)
+wrong-count {m} {b} o = record { says = sym (miscounted m b o) }
 
-pub count-passes : {n m : ℕ} (u : Bool) → n ≡ m → eqb n m && u ≡ u
-count-passes {n} {m} u e = passed u (eq-eqb n m e)
+pub none-tested : {m : ℕ} {b : Brought} → All (λ n. n ≡ m) (b .counts) → PassedBefore m b 0
+none-tested {m} {b} a =
+    record {
+      within = omega arith;
+      comes-to = counted-tested m b a ∙ ap (lowest (b .reading-at) 0) (let z : m ≡ m - 0 = omega arith in z);
+    }
 
-pub count-fails : {n m : ℕ} (u : Bool) → (n ≡ m → ⊥) → eqb n m && u ≡ false
-count-fails {n} {m} u d = failed u (ne-eqb n m d)
+module _ {m : ℕ} {b : Brought} {i : ℕ} (p : PassedBefore m b i) where
+  pub all-pass : m ≤ i → JudgesAll m b Passed
+  all-pass l = record { says = sym (p .comes-to ∙ ap (lowest (b .reading-at) i) (let z : m - i ≡ 0 = omega arith in z)) }
 
--- a turn: `got` says whether this reading fits, and either the loop goes on to the rest or all fail
-pub goes-on : {all this rest got : Bool} → all ≡ (this && rest) → got ≡ this → not got ≡ false → all ≡ rest
-goes-on {rest} {got} e g t = e ∙ passed rest (sym g ∙ not-false got t)
+  module _ (l : i < m) {v : Verdict} (j : Judges (b .reading-at i) i v) where
+    turn : readings-tested m b ≡ then (verdict-says v) (λ x. lowest (b .reading-at) (i + 1) (m - (i + 1)))
+    turn =
+        p .comes-to ∙ ap (lowest (b .reading-at) i) (let z : m - i ≡ suc (m - (i + 1)) = omega arith in z)
+        ∙ ap (λ a. then a (λ x. lowest (b .reading-at) (i + 1) (m - (i + 1)))) (sym (j .says))
 
-pub stops : {all this got : Bool} (rest : Bool) → all ≡ (this && rest) → got ≡ this → not got ≡ true → all ≡ false
-stops {got} rest e g t = e ∙ failed rest (sym g ∙ not-true got t)
+    pub one-passes : v ≡ Passed → PassedBefore m b (i + 1)
+    one-passes e = record { within = omega arith; comes-to = turn ∙ then-value _ (ap verdict-says e) }
 
--- the readings from i on: the one at i, then those after it
-cut : (xs : List ℤ) (i : ℕ) → i < length xs → drop i xs ≡ getD xs i (pos 0) ∷ drop (i + 1) xs
-cut xs i l = rw add-one (drop-cons xs i (pos 0) l)
+    pub one-fails : {q : Refusal} {k : ℕ} → v ≡ Refused q k → JudgesAll m b (Refused q k)
+    one-fails e = record { says = sym (turn ∙ then-refused _ (ap verdict-says e)) }
 
--- a reading as the code reads it
-kept : (xs : List ℤ) (i : ℕ) → mag (getD xs i (pos 0)) < 2 ^ 63 → back (getD xs i (pos 0)) ≡ getD xs i (pos 0)
-kept xs i s = toZ-ofZ w64 (getD xs i (pos 0)) (record { sfits = s })
+-- a number as the code reads it
+kept : (xs : List ℤ) (i : ℕ) → mag (number-at xs i) < 2 ^ 63 → back (number-at xs i) ≡ number-at xs i
+kept xs i s = toZ-ofZ w64 (number-at xs i) (record { sfits = s })
 
-module _ (xs : List ℤ) (i : ℕ) where
-  pub plain-kept : {got : Bool} → mag (getD xs i (pos 0)) < 2 ^ 63 → got ≡ plain-fits (back (getD xs i (pos 0))) → got ≡ plain-fits (getD xs i (pos 0))
-  plain-kept s e = e ∙ ap plain-fits (kept xs i s)
+judges-kept : {c s r x y z : ℤ} {i : ℕ} {v : Verdict} → x ≡ c → y ≡ s → z ≡ r → Judges (reading x y z) i v → Judges (reading c s r) i v
+judges-kept {i = i} e f g j = record { says = j .says ∙ ap (λ (h : Reading). at-place i (judged h)) (ap₃ reading e f g) }
 
-  pub plain-one : i < length xs → all-plain (drop i xs) ≡ (plain-fits (getD xs i (pos 0)) && all-plain (drop (i + 1) xs))
-  plain-one l = ap all-plain (cut xs i l)
+module _ {i : ℕ} {v : Verdict} where
+  pub judges-plain : (xs : List ℤ) → Judges (reading (back (number-at xs i)) (pos 0) (pos 0)) i v → mag (number-at xs i) < 2 ^ 63
+      → Judges (plain-brought xs .reading-at i) i v
+  judges-plain xs j s = judges-kept (kept xs i s) refl refl j
 
-  pub plain-none : length xs ≤ i → all-plain (drop i xs) ≡ true
-  plain-none l = ap all-plain (drop-of-length-le xs l)
+  pub judges-ball : (cs rs : List ℤ) → Judges (reading (back (number-at cs i)) (pos 0) (back (number-at rs i))) i v
+      → mag (number-at cs i) < 2 ^ 63 → mag (number-at rs i) < 2 ^ 63 → Judges (balls-brought (ball-readings cs rs) .reading-at i) i v
+  judges-ball cs rs j s t = judges-kept (kept cs i s) refl (kept rs i t) j
 
-module _ (cs rs : List ℤ) (i : ℕ) where
-  pub ball-kept : {got : Bool} → mag (getD cs i (pos 0)) < 2 ^ 63 → mag (getD rs i (pos 0)) < 2 ^ 63
-      → got ≡ ball-fits (back (getD cs i (pos 0))) (back (getD rs i (pos 0))) → got ≡ ball-fits (getD cs i (pos 0)) (getD rs i (pos 0))
-  ball-kept s u e = e ∙ ap₂ ball-fits (kept cs i s) (kept rs i u)
-
-  pub ball-one : i < length cs → i < length rs → all-balls (drop i cs) (drop i rs) ≡ (ball-fits (getD cs i (pos 0)) (getD rs i (pos 0)) && all-balls (drop (i + 1) cs) (drop (i + 1) rs))
-  ball-one l k = ap₂ all-balls (cut cs i l) (cut rs i k)
-
-  pub ball-none : length cs ≤ i → all-balls (drop i cs) (drop i rs) ≡ true
-  ball-none l = ap (λ (x : List ℤ). all-balls x (drop i rs)) (drop-of-length-le cs l)
-
-module _ (cs ss rs : List ℤ) (i : ℕ) where
-  pub matryoshka-kept : {got : Bool} → mag (getD cs i (pos 0)) < 2 ^ 63 → mag (getD ss i (pos 0)) < 2 ^ 63 → mag (getD rs i (pos 0)) < 2 ^ 63
-      → got ≡ matryoshka-fits (back (getD cs i (pos 0))) (back (getD ss i (pos 0))) (back (getD rs i (pos 0))) → got ≡ matryoshka-fits (getD cs i (pos 0)) (getD ss i (pos 0)) (getD rs i (pos 0))
-  matryoshka-kept s v u e =
-      e ∙ ap (λ (x : ℤ). matryoshka-fits x (back (getD ss i (pos 0))) (back (getD rs i (pos 0)))) (kept cs i s)
-      ∙ ap₂ (matryoshka-fits (getD cs i (pos 0))) (kept ss i v) (kept rs i u)
-
-  pub matryoshka-one : i < length cs → i < length ss → i < length rs
-      → all-matryoshki (drop i cs) (drop i ss) (drop i rs) ≡ (matryoshka-fits (getD cs i (pos 0)) (getD ss i (pos 0)) (getD rs i (pos 0)) && all-matryoshki (drop (i + 1) cs) (drop (i + 1) ss) (drop (i + 1) rs))
-  matryoshka-one l j k =
-      ap (λ (x : List ℤ). all-matryoshki x (drop i ss) (drop i rs)) (cut cs i l) ∙ ap₂ (all-matryoshki (getD cs i (pos 0) ∷ drop (i + 1) cs)) (cut ss i j) (cut rs i k)
-
-  pub matryoshka-none : length cs ≤ i → all-matryoshki (drop i cs) (drop i ss) (drop i rs) ≡ true
-  matryoshka-none l = ap (λ (x : List ℤ). all-matryoshki x (drop i ss) (drop i rs)) (drop-of-length-le cs l)
+  pub judges-domain : (cs ss rs : List ℤ) → Judges (reading (back (number-at cs i)) (back (number-at ss i)) (back (number-at rs i))) i v
+      → mag (number-at cs i) < 2 ^ 63 → mag (number-at ss i) < 2 ^ 63 → mag (number-at rs i) < 2 ^ 63
+      → Judges (domain-brought (domain cs ss rs) .reading-at i) i v
+  judges-domain cs ss rs j s t u = judges-kept (kept cs i s) (kept ss i t) (kept rs i u) j

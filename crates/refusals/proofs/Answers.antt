@@ -1,33 +1,49 @@
 -- Answers: a value is no refusal, and two one after the other give a value only where the first does. Assumes nothing.
-use mathlib.Core.Path.{_≡_, refl, ap}
+use mathlib.Core.Path.{_≡_, refl, sym, ap}
 use Prim.Native.Nat.{ℕ}
 use native.Mathlib.Omega.{arith}
-use Rattle.refusals.specs.Answer.{Answer, value, refused, then}
+use Rattle.refusals.specs.Answer.{Outcome, value, refused, then, Answer}
+use Rattle.refusals.specs.Places.{Where, Placed, refused-at, at-place}
 
-pub no-value : {A : Type 0} {a : A} {n : ℕ} → refused n ≡ value a → ⊥
+pub no-value : {R A : Type 0} {a : A} {n : R} → refused n ≡ value a → ⊥
 no-value e = let z : _≡_ {A = ℕ} 0 1 = cc in omega arith
 
-pub same-value : {A : Type 0} {a b : A} → value a ≡ value b → a ≡ b
+pub same-value : {R A : Type 0} {a b : A} → _≡_ {A = Outcome R A} (value a) (value b) → a ≡ b
 same-value e = cc
 
-pub refused-same : {A : Type 0} {n m : ℕ} → _≡_ {A = Answer A} (refused n) (refused m) → n ≡ m
+pub refused-same : {R A : Type 0} {n m : R} → _≡_ {A = Outcome R A} (refused n) (refused m) → n ≡ m
 refused-same e = cc
 
-pub same-refusal : {A B : Type 0} {m n : ℕ} → _≡_ {A = Answer A} (refused m) (refused n) → _≡_ {A = Answer B} (refused m) (refused n)
+pub same-refusal : {R A B : Type 0} {m n : R} → _≡_ {A = Outcome R A} (refused m) (refused n) → _≡_ {A = Outcome R B} (refused m) (refused n)
 same-refusal e = cc
 
-pub record Before {A B : Type 0} (a : Answer A) (f : A → Answer B) (b : B) : Type 0 where
+pub record Before {R A B : Type 0} (a : Outcome R A) (f : A → Outcome R B) (b : B) : Type 0 where
   pub first : A
   pub was : a ≡ value first
   pub then-was : f first ≡ value b
 
-pub first-of : {A B : Type 0} (a : Answer A) (f : A → Answer B) {b : B} → then a f ≡ value b → Before a f b
+pub first-of : {R A B : Type 0} (a : Outcome R A) (f : A → Outcome R B) {b : B} → then a f ≡ value b → Before a f b
 first-of (value x) f e = record { first = x; was = refl; then-was = e }
 first-of (refused n) f e = absurd (no-value e)
 
 -- what an answer stands for, once it is known which case it is
-pub then-value : {A B : Type 0} {a : Answer A} {x : A} (f : A → Answer B) → a ≡ value x → then a f ≡ f x
+pub then-value : {R A B : Type 0} {a : Outcome R A} {x : A} (f : A → Outcome R B) → a ≡ value x → then a f ≡ f x
 then-value f e = ap (λ a. then a f) e
 
-pub then-refused : {A B : Type 0} {a : Answer A} {n : ℕ} (f : A → Answer B) → a ≡ refused n → then a f ≡ refused n
+pub then-refused : {R A B : Type 0} {a : Outcome R A} {n : R} (f : A → Outcome R B) → a ≡ refused n → then a f ≡ refused n
 then-refused f e = ap (λ a. then a f) e
+
+-- a place changes no value, and a refusal has its number and that place
+pub placed-value : {A : Type 0} (k : ℕ) (a : Answer A) {x : A} → at-place k a ≡ value x → a ≡ value x
+placed-value k (value y) e = ap value (same-value e)
+placed-value k (refused n) e = absurd (no-value e)
+
+pub record PlacedRefusal {A : Type 0} (k : ℕ) (a : Answer A) (w : Where) : Type 0 where
+  pub refuses : a ≡ refused (w .number)
+  pub stands : k ≡ w .place
+
+pub placed-refused : {A : Type 0} (k : ℕ) (a : Answer A) {w : Where} → at-place k a ≡ refused w → PlacedRefusal k a w
+placed-refused k (value y) e = absurd (no-value (sym e))
+placed-refused k (refused n) e =
+    let same = refused-same e in
+    record { refuses = ap (λ (w : Where). refused (w .number)) same; stands = ap (λ (w : Where). w .place) same }

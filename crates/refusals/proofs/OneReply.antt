@@ -5,17 +5,22 @@ use Prim.Native.Nat.{ℕ}
 use native.Mathlib.Omega.{arith}
 use lib.ListN.{getD}
 use Rattle.refusals.specs.declared.Refusal.{Refusal}
-use Rattle.refusals.specs.declared.Refusal.the-variants.{Ended, Version, Scale, Count, Code, Operand, Constant, Padding, Readings, NoRoom, OutOfReach, AnotherForm}
+use Rattle.refusals.specs.declared.Refusal.the-variants.{Ended, Version, Scale, Count, Code, Operand, Constant, Padding, NoRoom, OutOfReach, AnotherForm, ReadingCount, NegativeMargin, ReadingTooLarge}
 use Rattle.refusals.specs.declared.Reply.{Reply}
 use Rattle.refusals.specs.declared.Reply.the-variants.{Done, Refused}
+use Rattle.refusals.specs.declared.Verdict.{Verdict}
+use Rattle.refusals.specs.declared.Verdict.the-variants as verdict
 use Rattle.refusals.specs.Refusals.{refusal-number}
-use Rattle.refusals.specs.Answer.{Answer, value, refused, refuse}
+use Rattle.refusals.specs.Answer.{value, refused, Answer, refuse}
+use Rattle.refusals.specs.Places.{Where, Placed, refuse-at, verdict-says}
 use Rattle.refusals.specs.Said.{Said, answered, refuses, reply-said}
+use Rattle.refusals.proofs.Answers.{no-value, refused-same}
 
--- place n has the refusal of number n; no refusal has number 0
+-- place n has the refusal of number n; no refusal has number 0 or 9
 abbrev in-order : List Refusal
 in-order =
-    Ended ∷ Ended ∷ Version ∷ Scale ∷ Count ∷ Code ∷ Operand ∷ Constant ∷ Padding ∷ Readings ∷ NoRoom ∷ OutOfReach ∷ AnotherForm ∷ []
+    Ended ∷ Ended ∷ Version ∷ Scale ∷ Count ∷ Code ∷ Operand ∷ Constant ∷ Padding ∷ Ended ∷ NoRoom ∷ OutOfReach ∷ AnotherForm
+    ∷ ReadingCount ∷ NegativeMargin ∷ ReadingTooLarge ∷ []
 
 number-back : (r : Refusal) → getD in-order (refusal-number r) Ended ≡ r
 number-back Ended = refl
@@ -26,10 +31,12 @@ number-back Code = refl
 number-back Operand = refl
 number-back Constant = refl
 number-back Padding = refl
-number-back Readings = refl
 number-back NoRoom = refl
 number-back OutOfReach = refl
 number-back AnotherForm = refl
+number-back ReadingCount = refl
+number-back NegativeMargin = refl
+number-back ReadingTooLarge = refl
 
 pub same-number : (q r : Refusal) → refusal-number q ≡ refusal-number r → q ≡ r
 same-number q r e = sym (number-back q) ∙ ap (λ (n : ℕ). getD in-order n Ended) e ∙ number-back r
@@ -59,3 +66,15 @@ one-reply (Done m) (Done n) e = ap Done (ap first-said e)
 one-reply (Done m) (Refused r k) e = absurd (never-both e)
 one-reply (Refused q j) (Done n) e = absurd (never-both (sym e))
 one-reply (Refused q j) (Refused r k) e = ap₂ Refused (same-number q r (ap first-said e)) (ap place-said e)
+
+-- so do a refusal with its place, and a test
+pub one-place : {A : Type 0} (q r : Refusal) (j k : ℕ) → _≡_ {A = Placed A} (refuse-at q j) (refuse-at r k) → (q ≡ r) × (j ≡ k)
+one-place q r j k e =
+    let same = refused-same e in
+    (same-number q r (ap (λ (w : Where). w .number) same), ap (λ (w : Where). w .place) same)
+
+pub one-verdict : (r t : Verdict) → verdict-says r ≡ verdict-says t → r ≡ t
+one-verdict verdict.Passed verdict.Passed e = refl
+one-verdict verdict.Passed (verdict.Refused q j) e = absurd (no-value (sym e))
+one-verdict (verdict.Refused q j) verdict.Passed e = absurd (no-value e)
+one-verdict (verdict.Refused q j) (verdict.Refused r k) e = let p = one-place q r j k e in ap₂ verdict.Refused (p .0) (p .1)

@@ -1,9 +1,9 @@
-// Why a caller gets no answer, and how a job ended. A later refusal is one line in each of `Refusal`, `number_of` and
-// specs/Refusals.
+// Why a caller gets no answer, and how a test or a job ended. A later refusal is one line in each of `Refusal`,
+// `number_of` and specs/Refusals.
 ghost use mathlib.Core.Path.{_≡_};
 ghost use Rattle.refusals.specs.Refusals.{refusal-number};
 
-// In the order of the paper's numbers.
+// In the order of the paper's numbers; 9 is none.
 pub enum Refusal {
     Ended,
     Version,
@@ -13,10 +13,18 @@ pub enum Refusal {
     Operand,
     Constant,
     Padding,
-    Readings,
     NoRoom,
     OutOfReach,
     AnotherForm,
+    ReadingCount,
+    NegativeMargin,
+    ReadingTooLarge,
+}
+
+// Whether what a caller brought passed its test, or why not and at which place.
+pub enum Verdict {
+    Passed,
+    Refused(Refusal, usize),
 }
 
 // How many outputs were written, or why none was and at which place.
@@ -38,9 +46,11 @@ pub fn number_of(r: Refusal) -> u32
         Refusal::Operand => 6,
         Refusal::Constant => 7,
         Refusal::Padding => 8,
-        Refusal::Readings => 9,
         Refusal::NoRoom => 10,
         Refusal::OutOfReach => 11,
         Refusal::AnotherForm => 12,
+        Refusal::ReadingCount => 13,
+        Refusal::NegativeMargin => 14,
+        Refusal::ReadingTooLarge => 15,
     }
 }

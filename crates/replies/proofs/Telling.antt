@@ -8,7 +8,8 @@ use Rattle.refusals.specs.declared.Refusal.{Refusal}
 use Rattle.refusals.specs.declared.Reply.{Reply}
 use Rattle.refusals.specs.declared.Reply.the-variants.{Done, Refused}
 use Rattle.refusals.specs.Refusals.{refusal-number}
-use Rattle.refusals.specs.Answer.{Answer, value, refused}
+use Rattle.refusals.specs.Answer.{value, refused}
+use Rattle.refusals.specs.Places.{Placed}
 use Rattle.refusals.specs.Said.{Said, answered, refuses, reply-said}
 use Rattle.formulas.specs.declared.Header.{Header}
 use Rattle.formulas.specs.Formula.{Formula, InLimits}
@@ -35,7 +36,7 @@ job-few K s given work output = by-start (start K (formula s) given work output)
     by-walk f l (finished vs) = subst (λ (n : ℕ). n ≤ 16) (sym (length-map (f .results) (λ o. getD vs o (K .nothing)))) l
     by-walk f l (stopped n vs) = omega arith
 
-    by-start : (a : Answer (Started K)) → start K (formula s) given work output ≡ a → outputs-told (said (job K (formula s) given work output)) ≤ 16
+    by-start : (a : Placed (Started K)) → start K (formula s) given work output ≡ a → outputs-told (said (job K (formula s) given work output)) ≤ 16
     by-start (refused n) e = subst (λ j. outputs-told (said j) ≤ 16) (sym (job-refused K (formula s) given work output e)) (omega arith)
     by-start (value st) e =
         let w = accepted-well-formed s (starts K (formula s) given work output e .means) in

@@ -11,7 +11,7 @@ use formulas::Header;
 use refusals::Reply;
 use refusals::number_of;
 
-// The number of the refusal, or 0; how many outputs were written; with a refusal at an instruction, which.
+// The number of the refusal, or 0; how many outputs were written; the refusal's place.
 #[repr(C)]
 pub struct MarginsReply {
     pub refusal: u32,

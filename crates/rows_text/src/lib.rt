@@ -19,7 +19,7 @@ fn by_first(k: usize, formula: &[u8], first: &[i64], lines: &[u8], out: &mut [u8
     }
     let mut second: [i64; 8192] = [0; 8192];
     match column::read(lines, k, 1, &mut second) {
-        Gathered::Malformed => put_refused(Refusal::AnotherForm, out),
+        Gathered::Malformed => put_refused(Refusal::AnotherForm, 0, out),
         Gathered::Got(n) => by_second(k, formula, first, &second[..n], lines, out),
     }
 }
@@ -32,7 +32,7 @@ pub fn by_lines(k: usize, formula: &[u8], lines: &[u8], out: &mut [u8]) -> usize
 {
     let mut first: [i64; 8192] = [0; 8192];
     match column::read(lines, k, 0, &mut first) {
-        Gathered::Malformed => put_refused(Refusal::AnotherForm, out),
+        Gathered::Malformed => put_refused(Refusal::AnotherForm, 0, out),
         Gathered::Got(n) => by_first(k, formula, &first[..n], lines, out),
     }
 }

@@ -1,3 +1,4 @@
 -- The laws of the three runs.
 pub mod Readiness
 pub mod Running
+pub mod OneStart

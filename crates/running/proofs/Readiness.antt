@@ -1,26 +1,26 @@
 -- The tests before the first step, in the code's shape, once for the three kinds. Assumes nothing.
 use mathlib.Core.Path.{_≡_, refl, sym, _∙_, ap, ap₂}
-use mathlib.Core.Bool.{Bool, true, false, cond, not, _&&_}
-use mathlib.Core.List.{List, map}
+use mathlib.Core.Bool.{Bool, true, false, not, _&&_}
+use mathlib.Core.List.{List}
 use Prim.Native.Nat.{ℕ, _+_, _-_, _≤_, _<_}
 use native.Mathlib.Omega.{arith}
 use borrow.Author.Tests.{le-leb, lt-leb, not-true, not-false}
 use lib.Dec.{leb}
-use lib.IntN.{ℤ, natAbs}
 use Rattle.whole.proofs.Cases.{by-case}
 use Rattle.refusals.specs.declared.Refusal.{Refusal}
 use Rattle.refusals.specs.declared.Refusal.the-variants as refusal
 use Rattle.refusals.specs.declared.Reply.the-variants.{Refused}
-use Rattle.refusals.specs.Answer.{Answer, value, refused, refuse, then}
+use Rattle.refusals.specs.declared.Verdict.{Verdict}
+use Rattle.refusals.specs.declared.Verdict.the-variants as verdict
+use Rattle.refusals.specs.Answer.{value, refused, then}
+use Rattle.refusals.specs.Places.{Placed, elsewhere, refuse-at, verdict-says}
 use Rattle.refusals.proofs.Answers.{no-value, same-refusal, then-value, then-refused}
-use Rattle.rules.specs.declared.Ball.{Ball}
-use Rattle.rules.specs.declared.Matryoshka.{Matryoshka}
-use Rattle.rules.specs.Lists.{balls, matryoshki}
 use Rattle.formulas.specs.declared.Header.{Header}
 use Rattle.formulas.specs.Formula.{Formula}
-use Rattle.formulas.specs.Kinds.{Kind, plain-kind, ball-kind, matryoshka-kind}
-use Rattle.formulas.specs.Readings.{BallReadings, Domain, plain-tested, ball-tested, domain-tested, if-fit}
-use Rattle.formulas.specs.Job.{Started, if-room, roomy, start, Lent, lent-start, Kept}
+use Rattle.formulas.specs.Readings.{readings-tested}
+use Rattle.formulas.specs.Kinds.{Kind, tested}
+use Rattle.formulas.specs.Job as job
+use Rattle.formulas.specs.Job.{Started, if-room, roomy, Lent, lent-start, Kept}
 use Rattle.formulas.proofs.Lawful.{Lawful}
 use Rattle.formulas.proofs.Jobs.{kept-refused}
 use Rattle.packed.specs.Meaning.{formula, meant, checked}
@@ -29,7 +29,10 @@ use Rattle.packed.proofs.Formed.{formed}
 use Rattle.checking.specs.declared.Checked.{Checked}
 use Rattle.checking.specs.declared.Checked.the-variants as checked
 use Rattle.checking.specs.CheckAnswers.{check-answer}
-use Rattle.running.specs.Ready.{Tests, started-header, Ready, Begins}
+use Rattle.readings.specs.Judges.{JudgesAll}
+use Rattle.running.specs.declared.Start.{Start}
+use Rattle.running.specs.declared.Start.the-variants as start
+use Rattle.running.specs.Ready.{start-says, Tests, started-header, Ready, Begins}
 
 -- the three ways to come out of the test of room
 module _ (m l n work output : ℕ) where
@@ -42,79 +45,70 @@ module _ (m l n work output : ℕ) where
   pub room-for-values : m ≤ work → l ≤ work - m → leb n output ≡ (leb (m + l) work && leb n output)
   room-for-values i p = sym (ap (λ (t : Bool). t && leb n output) (le-leb (m + l) work (omega arith)))
 
--- what the tests answer
-abbrev after : Header → ℕ → ℕ → Bool → Bool → Answer Header
-after h work output t u = cond t (cond u (value h) (refuse refusal.NoRoom)) (refuse refusal.Readings)
+-- readings that passed leave the test of room
+with-room : (h : Header) (v : Verdict) (work output : ℕ) {t : Bool} → v ≡ verdict.Passed → roomy h work output ≡ t
+    → then (verdict-says v) (λ x. elsewhere (if-room (roomy h work output) h)) ≡ elsewhere (if-room t h)
+with-room h v work output p e = then-value _ (ap verdict-says p) ∙ ap (λ (t : Bool). elsewhere (if-room t h)) e
 
--- the three ways to come out of them
-module _ {h : Header} {fit room : Bool} {work output : ℕ} (e : room ≡ roomy h work output) where
-  pub tests-misread : not fit ≡ true → Tests h fit work output (checked.Refused refusal.Readings)
-  tests-misread t = record { answers = ap (λ (b : Bool). after h work output b (roomy h work output)) (sym (not-true fit t)) }
+-- the three ways to come out of the tests
+pub tests-misread : {h : Header} {v : Verdict} {work output : ℕ} {q : Refusal} {k : ℕ} → v ≡ verdict.Refused q k
+    → Tests h v work output (start.Refused q k)
+tests-misread t = record { answers = sym (then-refused _ (ap verdict-says t)) }
 
-  pub tests-cramped : not fit ≡ false → not room ≡ true → Tests h fit work output (checked.Refused refusal.NoRoom)
-  tests-cramped t u = record { answers = ap₂ (after h work output) (sym (not-false fit t)) (sym (sym e ∙ not-true room u)) }
+module _ {h : Header} {v : Verdict} {room : Bool} {work output : ℕ} (e : room ≡ roomy h work output) (t : v ≡ verdict.Passed) where
+  pub tests-cramped : not room ≡ true → Tests h v work output (start.Refused refusal.NoRoom 0)
+  tests-cramped u = record { answers = sym (with-room h v work output t (sym e ∙ not-true room u)) }
 
-  pub tests-pass : not fit ≡ false → not room ≡ false → Tests h fit work output (checked.Formula h)
-  tests-pass t u = record { answers = ap₂ (after h work output) (sym (not-false fit t)) (sym (sym e ∙ not-false room u)) }
+  pub tests-pass : not room ≡ false → Tests h v work output (start.On h)
+  tests-pass u = record { answers = sym (with-room h v work output t (sym e ∙ not-false room u)) }
 
-module _ (K : Kind) (s : List ℕ) (given : K .Readings) (work output : ℕ) (c : Checked) (checks : check-answer c ≡ checked s) where
-  pub ready-unread : {q : Refusal} → c ≡ checked.Refused q → Ready K s given work output (checked.Refused q)
-  unfolding start
-  ready-unread t = record { answers = sym (ap (started-header K) (then-refused _ (refused-unread s (by-case check-answer checks t)))) }
+-- what was read and tested starts the run
+module _ (K : Kind) {s : List ℕ} {given : K .Readings} {work output : ℕ} {c : Checked} (checks : check-answer c ≡ checked s) where
+  pub ready-unread : {q : Refusal} → c ≡ checked.Refused q → Ready K s given work output (start.Refused q 0)
+  unfolding job.start
+  ready-unread t =
+      record {
+        answers = sym (ap (started-header K) (then-refused _ (ap elsewhere (refused-unread s (by-case check-answer checks t)))));
+      }
 
-  -- the tests are those of a start on a formula that was read
-  ready-by : {h : Header} {fit : Bool} (vs : List (K .Value)) {r : Checked} → c ≡ checked.Formula h
-      → K .tested (h .inputs) given ≡ if-fit fit vs → Tests h fit work output r → Ready K s given work output r
-  unfolding start
-  ready-by {h} {fit} vs t e u =
+  pub ready-tested : {h : Header} {v : Verdict} {r : Start} → c ≡ checked.Formula h → JudgesAll (h .inputs) (K .brought given) v
+      → Tests h v work output r → Ready K s given work output r
+  unfolding job.start
+  ready-tested {h} {v} t j u =
       let f = formed s (by-case check-answer checks t) in
       record {
         answers =
-            u .answers
-            ∙ sym (ap (started-header K) (then-value (λ (g : Formula). begun g (K .tested (g .header .inputs) given)) (f .means))
-            ∙ ap (λ a. started-header K (begun (meant s) a)) (ap (λ (g : Header). K .tested (g .inputs) given) (f .is-header) ∙ e)
-            ∙ by-tests fit (roomy (meant s .header) work output)
-            ∙ ap (λ (g : Header). after g work output fit (roomy g work output)) (f .is-header));
+            u .answers ∙ ap (λ a. then a (λ x. elsewhere (if-room (roomy h work output) h))) (j .says)
+            ∙ sym (ap (started-header K) (then-value (λ (g : Formula). begun g) (ap elsewhere (f .means)))
+            ∙ by-test (readings-tested (meant s .header .inputs) (K .brought given)) (roomy (meant s .header) work output)
+            ∙ ap (λ (g : Header). then (readings-tested (g .inputs) (K .brought given)) (λ x. elsewhere (if-room (roomy g work output) g))) (f .is-header));
       }
     where
-      begun : Formula → Answer (List (K .Value)) → Answer (Started K)
-      begun g a = then a (λ vs. if-room (roomy (g .header) work output) (record { formula = g; values = vs }))
+      on : Formula → List (K .Value) → Started K
+      on g vs = record { formula = g; values = vs }
 
-      by-tests : (t u : Bool) → started-header K (then (if-fit t vs) (λ ws. if-room u (record { formula = meant s; values = ws })))
-          ≡ after (meant s .header) work output t u
-      by-tests true true = refl
-      by-tests true false = refl
-      by-tests false u = refl
+      begun : Formula → Placed (Started K)
+      begun g = then (tested K (g .header .inputs) given) (λ vs. elsewhere (if-room (roomy (g .header) work output) (on g vs)))
 
--- of each kind
-module _ {s : List ℕ} {work output : ℕ} {c : Checked} (checks : check-answer c ≡ checked s) {h : Header} (is : c ≡ checked.Formula h) {fit : Bool} {r : Checked} where
-  pub plain-ready : {xs : List ℤ} → fit ≡ plain-tested (h .inputs) xs → Tests h fit work output r → Ready plain-kind s xs work output r
-  plain-ready {xs} e u = ready-by plain-kind s xs work output c checks xs is (ap (λ (t : Bool). if-fit t xs) (sym e)) u
-
-  pub ball-ready : {g : BallReadings} → fit ≡ ball-tested (h .inputs) g → Tests h fit work output r → Ready ball-kind s g work output r
-  ball-ready {g} e u = ready-by ball-kind s g work output c checks vs is (ap (λ (t : Bool). if-fit t vs) (sym e)) u
-    where
-      vs : List Ball
-      vs = balls (g .centres) (map natAbs (g .margins))
-
-  pub domain-ready : {g : Domain} → fit ≡ domain-tested (h .inputs) g → Tests h fit work output r → Ready matryoshka-kind s g work output r
-  domain-ready {g} e u = ready-by matryoshka-kind s g work output c checks vs is (ap (λ (t : Bool). if-fit t vs) (sym e)) u
-    where
-      vs : List Matryoshka
-      vs = matryoshki (g .middles) (map natAbs (g .strays)) (map natAbs (g .margins))
+      by-test : (a : Placed (Unit {0})) (t : Bool)
+          → started-header K (then (then a (λ x. value (K .values given))) (λ vs. elsewhere (if-room t (record { formula = meant s; values = vs }))))
+          ≡ then a (λ x. elsewhere (if-room t (meant s .header)))
+      by-test (value x) true = refl
+      by-test (value x) false = refl
+      by-test (refused w) t = refl
 
 -- what a run does next, in lists with so many places
-module _ {K : Kind} (law : Lawful K) {s : List ℕ} {given : K .Readings} {old : Lent K} {work output : ℕ} {r : Checked}
+module _ {K : Kind} (law : Lawful K) {s : List ℕ} {given : K .Readings} {old : Lent K} {work output : ℕ} {r : Start}
     (ready : Ready K s given work output r) (w : work ≡ K .room (old .work)) (o : output ≡ K .room (old .output)) where
-  starts-on : check-answer r ≡ started-header K (lent-start K (formula s) given old)
-  starts-on = ready .answers ∙ ap₂ (λ (m n : ℕ). started-header K (start K (formula s) given m n)) w o
+  starts-on : start-says r ≡ started-header K (lent-start K (formula s) given old)
+  starts-on = ready .answers ∙ ap₂ (λ (m n : ℕ). started-header K (job.start K (formula s) given m n)) w o
 
-  pub ready-refused : {q : Refusal} → r ≡ checked.Refused q → Kept K (formula s) given old old (Refused q 0)
-  ready-refused {q} t = kept-refused law (unstarted (lent-start K (formula s) given old) (by-case check-answer starts-on t))
+  pub ready-refused : {q : Refusal} {k : ℕ} → r ≡ start.Refused q k → Kept K (formula s) given old old (Refused q k)
+  ready-refused {q} {k} t = kept-refused law (unstarted (lent-start K (formula s) given old) (by-case start-says starts-on t))
     where
-      unstarted : (a : Answer (Started K)) → started-header K a ≡ refuse q → a ≡ refuse q
+      unstarted : (a : Placed (Started K)) → started-header K a ≡ refuse-at q k → a ≡ refuse-at q k
       unstarted (value st) e = absurd (no-value (sym e))
       unstarted (refused n) e = same-refusal e
 
-  pub ready-begins : {h : Header} → r ≡ checked.Formula h → Begins K s h given old
-  ready-begins t = record { starts-with = by-case check-answer starts-on t }
+  pub ready-begins : {h : Header} → r ≡ start.On h → Begins K s h given old
+  ready-begins t = record { starts-with = by-case start-says starts-on t }

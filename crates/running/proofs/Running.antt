@@ -16,7 +16,7 @@ use Rattle.bits.specs.declared.Cursor.{Cursor}
 use Rattle.formulas.specs.declared.Header.{Header}
 use Rattle.formulas.specs.Formula.{Formula, places}
 use Rattle.formulas.specs.Run.{Walk, finished, stopped, run, made-by, walk-end}
-use Rattle.formulas.specs.Kinds.{Kind}
+use Rattle.formulas.specs.Kinds.{Kind, tested}
 use Rattle.formulas.specs.Job.{Started, Result, done, walk-ended, started-run, work-of, outputs-of, said, Lent, lent, lent-start, Kept}
 use Rattle.formulas.proofs.Walks.{run-long, run-longer}
 use Rattle.formulas.proofs.Lawful.{Values, Lawful}
@@ -35,7 +35,7 @@ pub record Begun (K : Kind) (s : List ℕ) (h : Header) (given : K .Readings) (o
   pub begun : lent-start K (formula s) given old ≡ value (record { formula = meant s; values = values })
   pub is-header : meant s .header ≡ h
   pub is-formula : checked s ≡ value h
-  pub fits : K .tested (h .inputs) given ≡ value values
+  pub fits : tested K (h .inputs) given ≡ value values
   pub work-room : places h ≤ K .room (old .work)
   pub output-room : h .outputs ≤ K .room (old .output)
 
@@ -52,7 +52,7 @@ begun-by {K} {s} {h} {given} {old} b =
       begun = a .was ∙ ap (λ (f : Formula). value (record { formula = f; values = st .values })) m;
       is-header = ap (λ (f : Formula). f .header) (sym m) ∙ e;
       is-formula = then-value (λ (f : Formula). value (f .header)) (p .means) ∙ ap value e;
-      fits = subst (λ (g : Header). K .tested (g .inputs) given ≡ value (st .values)) e (p .fits);
+      fits = subst (λ (g : Header). tested K (g .inputs) given ≡ value (st .values)) e (p .fits);
       work-room = subst (λ (g : Header). places g ≤ K .room (old .work)) e (p .work-room);
       output-room = subst (λ (g : Header). g .outputs ≤ K .room (old .output)) e (p .output-room);
     }

@@ -1,32 +1,36 @@
--- "1 to 8 come in file order .. Then 9, 10": when a run is ready for its first step.
+-- "1 to 8 come in file order", then 13 to 15, then 10: when a run is ready for its first step.
 use mathlib.Core.Path.{_≡_}
-use mathlib.Core.Bool.{Bool, cond}
 use mathlib.Core.List.{List}
 use Prim.Native.Nat.{ℕ, _≤_}
-use Rattle.refusals.specs.declared.Refusal.the-variants as refusal
+use Rattle.refusals.specs.declared.Verdict.{Verdict}
 use Rattle.refusals.specs.declared.Reply.{Reply}
 use Rattle.refusals.specs.Said.{reply-said}
-use Rattle.refusals.specs.Answer.{Answer, value, refuse, then}
+use Rattle.refusals.specs.Answer.{value, then}
+use Rattle.refusals.specs.Places.{Placed, elsewhere, refuse-at, verdict-says}
 use Rattle.formulas.specs.declared.Header.{Header}
 use Rattle.formulas.specs.Run.{made-by}
 use Rattle.formulas.specs.Kinds.{Kind}
-use Rattle.formulas.specs.Job.{Started, roomy, start, walk-ended, outputs-of, said, Lent, lent-start}
+use Rattle.formulas.specs.Job as job
+use Rattle.formulas.specs.Job.{Started, roomy, if-room, walk-ended, outputs-of, said, Lent, lent-start}
 use Rattle.packed.specs.Meaning.{formula, meant}
 use Rattle.walks.specs.Walks.{Walkable, walk-of}
-use Rattle.checking.specs.declared.Checked.{Checked}
-use Rattle.checking.specs.CheckAnswers.{check-answer}
+use Rattle.running.specs.declared.Start.{Start}
+use Rattle.running.specs.declared.Start.the-variants as start
 
--- 9 where the readings do not fit, then 10 where there is too little room
-pub record Tests (h : Header) (fit : Bool) (work output : ℕ) (r : Checked) : Type 0 where
-  pub answers : check-answer r ≡ cond fit (cond (roomy h work output) (value h) (refuse refusal.NoRoom))
-      (refuse refusal.Readings)
+abbrev pub start-says : Start → Placed Header
+start-says (start.On h) = value h
+start-says (start.Refused q k) = refuse-at q k
 
-abbrev pub started-header : (K : Kind) → Answer (Started K) → Answer Header
+-- the refusal of the readings, then 10 where there is too little room
+pub record Tests (h : Header) (fit : Verdict) (work output : ℕ) (r : Start) : Type 0 where
+  pub answers : start-says r ≡ then (verdict-says fit) (λ x. elsewhere (if-room (roomy h work output) h))
+
+abbrev pub started-header : (K : Kind) → Placed (Started K) → Placed Header
 started-header K a = then a (λ st. value (st .formula .header))
 
 -- the header of the formula that the run starts on, or the refusal that comes before any step
-pub record Ready (K : Kind) (s : List ℕ) (given : K .Readings) (work output : ℕ) (r : Checked) : Type 0 where
-  pub answers : check-answer r ≡ started-header K (start K (formula s) given work output)
+pub record Ready (K : Kind) (s : List ℕ) (given : K .Readings) (work output : ℕ) (r : Start) : Type 0 where
+  pub answers : start-says r ≡ started-header K (job.start K (formula s) given work output)
 
 -- a run starts on the formula with this header
 pub record Begins (K : Kind) (s : List ℕ) (h : Header) (given : K .Readings) (old : Lent K) : Type 0 where

@@ -2,9 +2,15 @@
 ghost use mathlib.Core.Path.{_≡_};
 ghost use Rattle.formulas.specs.Job.{roomy};
 ghost use Rattle.running.specs.Ready.{Tests};
-use checking::Checked;
 use formulas::Header;
 use refusals::Refusal;
+use refusals::Verdict;
+
+// The header of a formula that a run starts on, or why it does not start and at which place.
+pub enum Start {
+    On(Header),
+    Refused(Refusal, usize),
+}
 
 // m+l places to work in and n for the outputs.
 fn enough(h: Header, work: usize, output: usize) -> bool
@@ -19,16 +25,16 @@ fn enough(h: Header, work: usize, output: usize) -> bool
     output >= h.outputs
 }
 
-// The header where its readings fit and there is room for its values, or the refusal.
-pub fn tested(h: Header, fit: bool, work: usize, output: usize) -> Checked
+// The header where its readings passed and there is room for its values, or the refusal.
+pub fn tested(h: Header, fit: Verdict, work: usize, output: usize) -> Start
     ensures { λ r. ⌜ Tests h fit work output r ⌝ }
 {
     let room = enough(h, work, output);
-    if !fit {
-        return Checked::Refused(Refusal::Readings);
+    if let Verdict::Refused(q, k) = fit {
+        return Start::Refused(q, k);
     }
     if !room {
-        return Checked::Refused(Refusal::NoRoom);
+        return Start::Refused(Refusal::NoRoom, 0);
     }
-    Checked::Formula(h)
+    Start::On(h)
 }

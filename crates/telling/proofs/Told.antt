@@ -9,7 +9,8 @@ use lib.ListN.{length, getD, length-map}
 use Rattle.lists.specs.Over.{least}
 use Rattle.refusals.specs.declared.Reply.{Reply}
 use Rattle.refusals.specs.declared.Reply.the-variants.{Done, Refused}
-use Rattle.refusals.specs.Answer.{Answer, value, refused}
+use Rattle.refusals.specs.Answer.{value, refused}
+use Rattle.refusals.specs.Places.{Placed}
 use Rattle.refusals.specs.Said.{Said, answered, refuses, reply-said}
 use Rattle.formulas.specs.Formula.{Formula, WellFormed}
 use Rattle.formulas.specs.Run.{Walk, finished, stopped}
@@ -29,7 +30,7 @@ use Rattle.telling.specs.Telling.{headline, output-count}
 -- a reply by what it says
 abbrev said-head : Said → List ℕ
 said-head (answered n) = ok-text n
-said-head (refuses n k) = refused-text n
+said-head (refuses n k) = refused-text n k
 
 abbrev said-count : Said → ℕ
 said-count (answered n) = n
@@ -44,15 +45,15 @@ count-said (Done n) = refl
 count-said (Refused q k) = refl
 
 outputs-many : {A : Type 0} (j : Result A) → length (outputs-of j) ≡ said-count (said j)
-outputs-many (refused-first n) = refl
+outputs-many (refused-first n k) = refl
 outputs-many (stopped-at k n vs) = refl
 outputs-many (done vs os) = refl
 
 text-said : {A : Type 0} (fields : A → List ℕ) (j : Result A)
     → said-head (said j) ++ listed fields 0 (outputs-of j) ≡ text-of fields j
 unfolding listed
-text-said fields (refused-first n) = append-nil (refused-text n)
-text-said fields (stopped-at k n vs) = append-nil (refused-text n)
+text-said fields (refused-first n k) = append-nil (refused-text n k)
+text-said fields (stopped-at k n vs) = append-nil (refused-text n k)
 text-said fields (done vs os) = refl
 
 -- no formula has more than 16 outputs
@@ -68,7 +69,7 @@ outputs-limit K s given work output = by-start (start K (formula s) given work o
         let long = length-map (f .results) (λ o. getD vs o (K .nothing)) in
         omega (arith, long, well .results-long, well .limits .outputs-few)
 
-    by-start : (a : Answer (Started K)) → start K (formula s) given work output ≡ a
+    by-start : (a : Placed (Started K)) → start K (formula s) given work output ≡ a
         → length (outputs-of (if-started K a)) ≤ 16
     by-start (refused n) e = omega arith
     by-start (value st) e =

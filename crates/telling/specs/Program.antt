@@ -15,7 +15,7 @@ use Rattle.packed.specs.Meaning.{formula}
 use Rattle.parsing.specs.Lines.{lines}
 use Rattle.parsing.specs.Word.{Job, plain, ball, admit, job-named, numbers-on-a-line}
 use Rattle.hex.specs.Hex.{hex}
-use Rattle.rows.specs.Rows.{column, each-row}
+use Rattle.rows.specs.Rows.{space, column, each-row}
 use Rattle.printing.specs.Decimal.{decimal}
 use Rattle.listing.specs.OutputLines.{plain-fields, ball-fields, matryoshka-fields, listed}
 
@@ -26,13 +26,17 @@ refused-word = 114 ∷ 101 ∷ 102 ∷ 117 ∷ 115 ∷ 101 ∷ 100 ∷ 32 ∷ []
 abbrev pub ok-word : List ℕ
 ok-word = 111 ∷ 107 ∷ 32 ∷ []
 
--- "`refused ` and the number. A refusal is one line, ended by LF"
-abbrev pub refused-text : ℕ → List ℕ
-refused-text n = refused-word ++ decimal n ++ (10 ∷ [])
+-- request c: "The program prints a space and the place after the number"; "A refusal is one line, ended by LF"
+abbrev pub place-text : ℕ → List ℕ
+place-text k = space ∷ (decimal k ++ (10 ∷ []))
 
--- "Longer input, or input of another form .. prints `refused 12`"
-abbrev pub another-form : ℕ
-another-form = refusal-number AnotherForm
+-- "`refused ` and the number"
+abbrev pub refused-text : ℕ → ℕ → List ℕ
+refused-text n k = refused-word ++ decimal n ++ place-text k
+
+-- "Longer input, or input of another form .. prints `refused 12`", and the place, "12 included"
+abbrev pub twelve-text : List ℕ
+twelve-text = refused-text (refusal-number AnotherForm) 0
 
 -- "The first line is `ok` and the number of outputs"
 abbrev pub ok-text : ℕ → List ℕ
@@ -40,8 +44,8 @@ ok-text n = ok-word ++ decimal n ++ (10 ∷ [])
 
 -- "then a line for each output"
 abbrev pub text-of : {A : Type 0} → (A → List ℕ) → Result A → List ℕ
-text-of fields (refused-first n) = refused-text n
-text-of fields (stopped-at k n vs) = refused-text n
+text-of fields (refused-first n k) = refused-text n k
+text-of fields (stopped-at k n vs) = refused-text n k
 text-of fields (done vs os) = ok-text (length os) ++ listed fields 0 os
 
 -- lists that are long enough for every formula
@@ -64,7 +68,7 @@ job-text admit bytes rows =
 
 -- `refused 12` is tested first, over the whole input
 abbrev pub if-rows : Job → List ℕ → Option (List (List ℤ)) → List ℕ
-if-rows job bytes none = refused-text another-form
+if-rows job bytes none = twelve-text
 if-rows job bytes (some rows) = job-text job bytes rows
 
 -- "at most 16 KiB"
@@ -72,16 +76,16 @@ abbrev pub longest-input : ℕ
 longest-input = 16384
 
 abbrev pub if-job : Option (List ℕ) → Option Job → List (List ℕ) → List ℕ
-if-job none named ls = refused-text another-form
-if-job (some bytes) none ls = refused-text another-form
+if-job none named ls = twelve-text
+if-job (some bytes) none ls = twelve-text
 if-job (some bytes) (some job) ls = if-rows job bytes (each-row (numbers-on-a-line job) ls)
 
 -- "Line 1: the formula in lower-case hex. Line 2: one of the words .. Then one line a reading"
 abbrev pub if-lines : Option (List (List ℕ)) → List ℕ
-if-lines none = refused-text another-form
-if-lines (some []) = refused-text another-form
-if-lines (some (formula ∷ [])) = refused-text another-form
+if-lines none = twelve-text
+if-lines (some []) = twelve-text
+if-lines (some (formula ∷ [])) = twelve-text
 if-lines (some (formula ∷ word ∷ readings)) = if-job (hex formula) (job-named word) readings
 
 unfoldable pub program-text : List ℕ → List ℕ
-program-text s = cond (leb (length s) longest-input) (if-lines (lines s)) (refused-text another-form)
+program-text s = cond (leb (length s) longest-input) (if-lines (lines s)) twelve-text

@@ -8,7 +8,7 @@ use Rattle.telling.specs.Program.{refused-text, ok-text}
 
 abbrev pub headline : Reply → List ℕ
 headline (Done n) = ok-text n
-headline (Refused q k) = refused-text (refusal-number q)
+headline (Refused q k) = refused-text (refusal-number q) k
 
 abbrev pub output-count : Reply → ℕ
 output-count (Done n) = n

@@ -18,7 +18,7 @@ use Rattle.parsing.specs.ParsingAnswers.{Finds}
 use Rattle.parsing.proofs.Cuts.{lined, lines-cut, found-none, found-at, found-within}
 use Rattle.lists.specs.Written.{Wrote}
 use Rattle.lists.proofs.Again.{wrote-same, wrote-inside}
-use Rattle.telling.specs.Program.{refused-text, another-form}
+use Rattle.telling.specs.Program.{twelve-text}
 use Rattle.telling.specs.Program.{longest-input, if-lines}
 use Rattle.word_text.specs.Worded.{by-parts}
 use Rattle.telling.specs.Program.{program-text}
@@ -41,11 +41,11 @@ module _ (formula s : List ℕ) {r : Found} (f : Finds LF s r) where
   halved e = ap with-formula (lines-cut s ∙ ap (lined [] s) e)
 
   module _ {o now : List ℕ} {t : ℕ} where
-    pub told-one-line : r ≡ Nothing → Wrote (refused-text another-form) 0 o now t
+    pub told-one-line : r ≡ Nothing → Wrote twelve-text 0 o now t
         → Wrote (by-halves formula s) 0 o now t
     told-one-line e w = wrote-same (sym (halved (found-none f e) ∙ each s)) w
       where
-        each : (s : List ℕ) → with-formula (lined [] s none) ≡ refused-text another-form
+        each : (s : List ℕ) → with-formula (lined [] s none) ≡ twelve-text
         each [] = refl
         each (b ∷ s) = refl
 
@@ -66,24 +66,24 @@ prints : (s : List ℕ) {text o now : List ℕ} {t : ℕ} → program-text s ≡
 prints s e w = let v = wrote-same (sym e) w in record { writes = v; within = wrote-inside v }
 
 pub told-long : (s : List ℕ) {o now : List ℕ} {t : ℕ} → longest-input < length s
-    → Wrote (refused-text another-form) 0 o now t → Prints s o now t
+    → Wrote twelve-text 0 o now t → Prints s o now t
 unfolding program-text
 told-long s l w =
     let long = lt-leb (length s) longest-input l in
-    prints s (ap (λ (b : Bool). cond b (if-lines (lines s)) (refused-text another-form)) long) w
+    prints s (ap (λ (b : Bool). cond b (if-lines (lines s)) twelve-text) long) w
 
 module _ {s : List ℕ} {r : Found} (f : Finds LF s r) (l : length s ≤ longest-input) where
   by-cut : {h : Option Halves} → cut LF s ≡ h → program-text s ≡ if-lines (lined [] s h)
   unfolding program-text
   by-cut e =
-      ap (λ (b : Bool). cond b (if-lines (lines s)) (refused-text another-form)) (le-leb (length s) longest-input l)
+      ap (λ (b : Bool). cond b (if-lines (lines s)) twelve-text) (le-leb (length s) longest-input l)
       ∙ ap if-lines (lines-cut s ∙ ap (lined [] s) e)
 
-  pub told-unended : {o now : List ℕ} {t : ℕ} → r ≡ Nothing → Wrote (refused-text another-form) 0 o now t
+  pub told-unended : {o now : List ℕ} {t : ℕ} → r ≡ Nothing → Wrote twelve-text 0 o now t
       → Prints s o now t
   told-unended e w = prints s (by-cut (found-none f e) ∙ each s) w
     where
-      each : (s : List ℕ) → if-lines (lined [] s none) ≡ refused-text another-form
+      each : (s : List ℕ) → if-lines (lined [] s none) ≡ twelve-text
       each [] = refl
       each (b ∷ s) = refl
 

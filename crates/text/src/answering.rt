@@ -15,7 +15,7 @@ fn by_word(formula: &[u8], rest: &[u8], out: &mut [u8]) -> usize
         0 (now (out .entry)) (now (out .exit)) r ⌝ }
 {
     match find(rest, b'\n') {
-        Found::Nothing => put_refused(Refusal::AnotherForm, out),
+        Found::Nothing => put_refused(Refusal::AnotherForm, 0, out),
         Found::At(e) => by_job(formula, &rest[..e], &rest[e + 1..], out),
     }
 }
@@ -25,10 +25,10 @@ pub fn answer(input: &[u8], out: &mut [u8; 2048]) -> usize
     ensures { λ r. ⌜ Prints (now (input .entry)) (now (out .entry)) (now (out .exit)) r ⌝ }
 {
     if input.len() > 16384 {
-        return put_refused(Refusal::AnotherForm, out);
+        return put_refused(Refusal::AnotherForm, 0, out);
     }
     match find(input, b'\n') {
-        Found::Nothing => put_refused(Refusal::AnotherForm, out),
+        Found::Nothing => put_refused(Refusal::AnotherForm, 0, out),
         Found::At(e) => by_word(&input[..e], &input[e + 1..], out),
     }
 }

@@ -44,7 +44,8 @@ module _ {A : Type 0} (rule : Operation A → Answer A) (d : A) where
       first = omega arith
 
   -- nothing is left to read
-  none-left : {s : List ℕ} {c₀ c : Cursor} {m l k : ℕ} {vs₀ vs : List A} (o : Onward s c₀ c m l k vs₀ vs) → k ≡ l → value (record { got = []; left = before s c }) ≡ value (o .rest .all)
+  none-left : {s : List ℕ} {c₀ c : Cursor} {m l k : ℕ} {vs₀ vs : List A} (o : Onward s c₀ c m l k vs₀ vs) → k ≡ l
+      → _≡_ {A = Answer (Read (List Instruction))} (value (record { got = []; left = before s c })) (value (o .rest .all))
   unfolding several
   none-left {s} {c} {m} {l} {k} o e = subst (λ (n : ℕ). read (several instruction n (m + k)) (before s c) ≡ value (o .rest .all)) zero-left (o .rest .reads)
     where

@@ -16,7 +16,7 @@ use Rattle.hex.specs.Hex.{hex, hex-front}
 use Rattle.rows.specs.Rows.{each-row}
 use Rattle.lists.specs.Written.{Wrote}
 use Rattle.lists.proofs.Again.{wrote-same}
-use Rattle.telling.specs.Program.{refused-text, another-form}
+use Rattle.telling.specs.Program.{twelve-text}
 use Rattle.telling.specs.Program.{if-rows}
 use Rattle.columns_text.specs.JobLines.{job-with, lines-text}
 use Rattle.columns_text.proofs.Taken.{taken-none, taken-some}
@@ -29,14 +29,14 @@ numbered k e d n l = record { names = by-case named-answer e d ∙ n; few = l }
 
 -- reading lines, once the formula's line and the word are read
 abbrev by-lines : Option (List ℕ) → Option Job → Option (List (List ℕ)) → List ℕ
-by-lines bytes job none = refused-text another-form
+by-lines bytes job none = twelve-text
 by-lines bytes job (some ls) = if-job bytes job ls
 
-no-bytes : (job : Option Job) (o : Option (List (List ℕ))) → by-lines none job o ≡ refused-text another-form
+no-bytes : (job : Option Job) (o : Option (List (List ℕ))) → by-lines none job o ≡ twelve-text
 no-bytes job none = refl
 no-bytes job (some ls) = refl
 
-no-job : (bytes : List ℕ) (o : Option (List (List ℕ))) → by-lines (some bytes) none o ≡ refused-text another-form
+no-job : (bytes : List ℕ) (o : Option (List (List ℕ))) → by-lines (some bytes) none o ≡ twelve-text
 no-job bytes none = refl
 no-job bytes (some ls) = refl
 
@@ -68,7 +68,7 @@ module _ (formula word s : List ℕ) {old new : List ℕ} {q : Gathered} (g : Ga
       each none = refl
       each (some ls) = refl
 
-  pub told-unhexed : {o now : List ℕ} {t : ℕ} → q ≡ Malformed → Wrote (refused-text another-form) 0 o now t
+  pub told-unhexed : {o now : List ℕ} {t : ℕ} → q ≡ Malformed → Wrote twelve-text 0 o now t
       → Wrote (by-parts formula word s) 0 o now t
   told-unhexed e w =
       wrote-same (sym (parts-are ∙ ap (λ b. by-lines b (job-named word) (lines s)) (taken-none g e)
@@ -79,7 +79,7 @@ module _ (formula word s : List ℕ) {old new : List ℕ} {q : Gathered} (g : Ga
     parts-named = parts-are ∙ ap₂ (λ b j. by-lines b j (lines s)) (taken-some g e) (m .names)
 
     module _ {o now : List ℕ} {t : ℕ} where
-      pub told-unnamed : k ≡ 0 → Wrote (refused-text another-form) 0 o now t → Wrote (by-parts formula word s) 0 o now t
+      pub told-unnamed : k ≡ 0 → Wrote twelve-text 0 o now t → Wrote (by-parts formula word s) 0 o now t
       told-unnamed z w =
           wrote-same (sym (parts-named ∙ ap (λ k. by-lines (some (take n new)) (named-with k) (lines s)) z
           ∙ no-job (take n new) (lines s))) w

@@ -28,11 +28,11 @@ pub fn by_job(formula: &[u8], job: &[u8], readings: &[u8], out: &mut [u8]) -> us
 {
     let mut bytes: [u8; 8192] = [0; 8192];
     match hex::read(formula, &mut bytes) {
-        Gathered::Malformed => put_refused(Refusal::AnotherForm, out),
+        Gathered::Malformed => put_refused(Refusal::AnotherForm, 0, out),
         Gathered::Got(n) => {
             let k = numbers_for(job);
             if k == 0 {
-                return put_refused(Refusal::AnotherForm, out);
+                return put_refused(Refusal::AnotherForm, 0, out);
             }
             by_lines(k, &bytes[..n], readings, out)
         }

@@ -20,7 +20,7 @@ use Rattle.rules.specs.Exact.{over-both}
 use Rattle.rules.specs.Lists.{balls, ball-lists, matryoshka-lists}
 use Rattle.formulas.specs.declared.Instruction.the-variants.{Multiply, Coefficient}
 use Rattle.formulas.specs.Formula.{Formula}
-use Rattle.formulas.specs.Readings.{BallReadings, ball-readings, domain}
+use Rattle.formulas.specs.Readings.{judged, readings-tested, BallReadings, ball-readings, domain}
 use Rattle.formulas.specs.Kinds.{plain-kind, ball-kind, matryoshka-kind}
 use Rattle.formulas.specs.Job.{Lent, lent, Kept, start, job}
 use Rattle.formulas.specs.ExactRun.{ExactRun, end, step}
@@ -122,7 +122,7 @@ in-domain : InDomain (admitting .readings) reading
 in-domain = Near.one (lit≤ tt) refl (lit≤ tt) Near.none
 
 bare : Kept plain-kind (formula tenth-bytes) (pos 80 ∷ []) before after (Done 1)
-unfolding to-bits bits number field tested-field twos-complement header by-code instruction several is-padding body formula meant h Round Up within-reach start job
+unfolding to-bits bits number field tested-field twos-complement header by-code instruction several is-padding body formula meant h Round Up within-reach judged readings-tested start job
 bare = record { says = refl; works = refl; gives = refl }
 
 pub margins-as-strays-fails : (q : Program matryoshka-kind) → Fails matryoshka-kind Admits (margins-as-strays q)

@@ -1,4 +1,4 @@
--- Document 01's example stops each of the four wrong programs: the contract refuses what the program leaves there. Assumes nothing.
+-- Document 01's example stops each of the wrong programs: the contract refuses what the program leaves there. Assumes nothing.
 use mathlib.Core.Path.{_≡_, refl, sym, ap}
 use mathlib.Core.List.{List, [], _∷_}
 use Prim.Native.Nat.{ℕ, zero, suc}
@@ -8,7 +8,7 @@ use lib.ListN.{getD, replicate}
 use Rattle.lists.specs.Over.{least}
 use Rattle.refusals.specs.declared.Refusal.{Refusal}
 use Rattle.refusals.specs.Answer.{value}
-use Rattle.refusals.proofs.OneReply.{never-both}
+use Rattle.refusals.proofs.OneReply.{never-both, place-said}
 use Rattle.bits.specs.Bits.{to-bits, bits, number}
 use Rattle.bits.specs.Reader.{field}
 use Rattle.rules.specs.declared.Ball.{Ball}
@@ -17,13 +17,13 @@ use Rattle.rules.specs.Steps.{within-reach}
 use Rattle.rules.specs.Lists.{ball-lists, matryoshka-lists}
 use Rattle.formulas.specs.declared.Instruction.the-variants.{Add, Multiply}
 use Rattle.formulas.specs.Formula.{Formula}
-use Rattle.formulas.specs.Readings.{BallReadings, ball-readings, domain}
+use Rattle.formulas.specs.Readings.{judged, readings-tested, BallReadings, ball-readings, domain}
 use Rattle.formulas.specs.Kinds.{Kind, plain-kind, ball-kind, matryoshka-kind}
 use Rattle.formulas.specs.Job.{start, job, lent}
 use Rattle.packed.specs.Items.{tested-field}
 use Rattle.packed.specs.Format.{header, by-code, instruction, several, is-padding}
 use Rattle.packed.specs.Meaning.{body, formula, meant}
-use Rattle.wrong_programs.specs.Wrong.{Input, Program, Stopped, refuses-all, same-ball, copies-readings, first-only}
+use Rattle.wrong_programs.specs.Wrong.{Input, Program, Stopped, refuses-all, same-ball, copies-readings, first-only, tells-second}
 
 -- `0241004180000280200003`: "F = 4, m = 2: value 2 = value 0 times value 1; value 3 = value 2 plus value 0; output 3"
 abbrev example-bytes : List ℕ
@@ -54,7 +54,7 @@ admitting =
 
 pub refuses-all-stopped : (why : Input matryoshka-kind → Refusal) (q : Program matryoshka-kind)
     → Stopped matryoshka-kind (refuses-all why q)
-unfolding to-bits bits number field tested-field header by-code instruction several is-padding body formula meant h Round Up within-reach least start job
+unfolding to-bits bits number field tested-field header by-code instruction several is-padding body formula meant h Round Up within-reach least judged readings-tested start job
 refuses-all-stopped why q =
     record { at = admitting; refuses = λ k. never-both (sym (k .says)) }
 
@@ -78,7 +78,7 @@ first-size l = natAbs (getD l 0 (pos 0))
 
 -- the output's margin is 9 in the one and 0 in the other
 pub same-ball-stopped : (b : Ball) (q : Program ball-kind) → Stopped ball-kind (same-ball b q)
-unfolding to-bits bits number field tested-field header by-code instruction several is-padding body formula meant h Round Up within-reach least start job
+unfolding to-bits bits number field tested-field header by-code instruction several is-padding body formula meant h Round Up within-reach least judged readings-tested start job
 same-ball-stopped b q = by-margin (b .margin) refl
   where
     by-margin : (r : ℕ) → b .margin ≡ r → Stopped ball-kind (same-ball b q)
@@ -98,7 +98,7 @@ running = given plain-kind (pos 24 ∷ negsuc 9 ∷ []) (replicate 4 (pos 0)) (r
 
 -- the output is 9: neither the first reading, 24, nor 0
 pub copies-readings-stopped : (q : Program plain-kind) → Stopped plain-kind (copies-readings q)
-unfolding to-bits bits number field tested-field header by-code instruction several is-padding body formula meant h Round Up within-reach least start job
+unfolding to-bits bits number field tested-field header by-code instruction several is-padding body formula meant h Round Up within-reach least judged readings-tested start job
 copies-readings-stopped q =
     record {
       at = running;
@@ -106,9 +106,21 @@ copies-readings-stopped q =
     }
 
 pub first-only-stopped : (q : Program plain-kind) → Stopped plain-kind (first-only q)
-unfolding to-bits bits number field tested-field header by-code instruction several is-padding body formula meant h Round Up within-reach least start job
+unfolding to-bits bits number field tested-field header by-code instruction several is-padding body formula meant h Round Up within-reach least judged readings-tested start job
 first-only-stopped q =
     record {
       at = running;
       refuses = λ k. let z : _≡_ {A = ℕ} 0 9 = ap first-size (k .gives) in omega arith;
+    }
+
+-- reading 0 is too large, and reading 1 has a negative margin
+abbrev misreading : Input ball-kind
+misreading = on-balls (ball-readings (pos 2147483648 ∷ negsuc 9 ∷ []) (pos 0 ∷ negsuc 0 ∷ []))
+
+pub tells-second-stopped : (why : Input ball-kind → Refusal) (q : Program ball-kind) → Stopped ball-kind (tells-second why q)
+unfolding to-bits bits number field tested-field header by-code instruction several is-padding body formula meant h Round Up within-reach least judged readings-tested start job
+tells-second-stopped why q =
+    record {
+      at = misreading;
+      refuses = λ k. let z : _≡_ {A = ℕ} 1 0 = ap place-said (k .says) in omega arith;
     }

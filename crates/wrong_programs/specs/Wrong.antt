@@ -1,4 +1,5 @@
--- Document 01, "How tight the contracts are": what a job is given and what it leaves, and the four wrong programs.
+-- Document 01, "How tight the contracts are": what a job is given and what it leaves, and the four wrong programs; and
+-- one that tells a later reading than the lowest bad one.
 use mathlib.Core.List.{List, map}
 use Prim.Native.Nat.{ℕ}
 use lib.IntN.{ℤ, pos}
@@ -46,7 +47,7 @@ Stopped K p = Fails K (Allows K) p
 abbrev pub asked : {K : Kind} → Input K → ℕ
 asked i = meant (i .bytes) .header .outputs
 
--- In each of the four, q is any program: what the wrong one does beside the wrong.
+-- In each of them, q is any program: what the wrong one does beside the wrong.
 
 -- "an admission that refuses all formulas", for whatever reason
 abbrev pub refuses-all : (Input matryoshka-kind → Refusal) → Program matryoshka-kind → Program matryoshka-kind
@@ -80,3 +81,8 @@ first-only q i =
     let outputs = map (λ o. getD values o (pos 0)) (f .results) in
     let left = lent plain-kind (over values (i .held .work)) (over outputs (i .held .output)) in
     record { reply = q i .reply; left = left }
+
+-- request c, "for the lowest bad reading": a run that tells reading 1, for whatever reason, as one does that tells the
+-- highest bad reading, or a negative margin before an earlier reading's reach
+abbrev pub tells-second : (Input ball-kind → Refusal) → Program ball-kind → Program ball-kind
+tells-second why q i = record { reply = Refused (why i) 1; left = q i .left }

@@ -1,7 +1,7 @@
 -- `ready` meets its contract. Assumes nothing.
 use borrow.Author.Needs.{needs}
 use Rattle.formulas.specs.Kinds.{matryoshka-kind}
-use Rattle.running.proofs.Readiness.{ready-unread, domain-ready}
+use Rattle.running.proofs.Readiness.{ready-unread, ready-tested}
 use Rattle.admit_run.proofs.ready.Statement.{statement}
 use Rattle.admit_run.proofs.ready.Tie as tie
 
@@ -15,4 +15,4 @@ ready-spec =
     (λ c κs. search needs)
     (λ c κs. search needs)
     (λ c. search (ready-unread matryoshka-kind))
-    (λ c. search domain-ready))
+    (λ c. search (ready-tested matryoshka-kind)))

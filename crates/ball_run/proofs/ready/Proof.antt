@@ -1,7 +1,7 @@
 -- `ready` meets its contract. Assumes nothing.
 use borrow.Author.Needs.{needs}
 use Rattle.formulas.specs.Kinds.{ball-kind}
-use Rattle.running.proofs.Readiness.{ready-unread, ball-ready}
+use Rattle.running.proofs.Readiness.{ready-unread, ready-tested}
 use Rattle.ball_run.proofs.ready.Statement.{statement}
 use Rattle.ball_run.proofs.ready.Tie as tie
 
@@ -15,4 +15,4 @@ ready-spec =
     (λ c κs. search needs)
     (λ c κs. search needs)
     (λ c. search (ready-unread ball-kind))
-    (λ c. search ball-ready))
+    (λ c. search (ready-tested ball-kind)))

@@ -4,5 +4,14 @@ use Rattle.running.proofs.Readiness.{tests-misread, tests-cramped, test
 use Rattle.running.proofs.tested.Statement.{statement}
 use Rattle.running.proofs.tested.Tie as tie
 
+-- each return is held against every way to come out of the tests
 pub tested-spec : {M : Type 1} → statement M
-tested-spec = tie.close (tie.spec (λ c κs. search needs) (λ c. search tests-misread) (λ c. search tests-cramped) (λ c. search tests-pass))
+tested-spec =
+    tie.close
+    (tie.spec
+    (λ c κs. search needs)
+    (λ c. search (tests-misread, tests-cramped, tests-pass, needs))
+    (λ c. search (tests-misread, tests-cramped, tests-pass, needs))
+    (λ c. search (tests-misread, tests-cramped, tests-pass, needs))
+    (λ c. search (tests-misread, tests-cramped, tests-pass, needs))
+    (λ c. search (tests-misread, tests-cramped, tests-pass, needs)))

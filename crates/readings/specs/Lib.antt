@@ -1,0 +1,2 @@
+-- What the tests of readings promise.
+pub mod Judges
