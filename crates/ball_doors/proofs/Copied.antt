@@ -15,7 +15,7 @@ use Rattle.refusals.specs.Answer.{Answer, value, refused, then}
 use Rattle.refusals.specs.Places.{Placed, refused-at, elsewhere, refuse-at}
 use Rattle.refusals.proofs.Answers.{then-refused}
 use Rattle.rules.specs.declared.Ball.{Ball}
-use Rattle.rules.specs.Lists.{balls, HoldBalls}
+use Rattle.rules.specs.Lists.{HoldBalls}
 use Rattle.formulas.specs.Formula.{Formula}
 use Rattle.formulas.specs.Readings.{ball-readings, balls-brought}
 use Rattle.formulas.specs.Kinds.{ball-kind, tested}

@@ -2,10 +2,10 @@
 use mathlib.Core.Path.{_≡_, refl, sym, _∙_, ap, ap₂}
 use mathlib.Core.Bool.{Bool, true, false, _&&_, cond}
 use mathlib.Core.List.{List, [], _∷_}
-use mathlib.Core.Logic.{_⊎_, inl, inr}
+use mathlib.Core.Logic.{inl, inr}
 use Prim.Native.Nat.{ℕ, zero, suc, _+_, _≤_, _<_}
 use native.Mathlib.Omega.{arith}
-use borrow.Author.Tests.{leb-true, leb-false, le-leb, lt-leb, eqb-true, eqb-false, eq-eqb, ne-eqb}
+use borrow.Author.Tests.{leb-true, leb-false, eqb-true, eqb-false, eq-eqb, ne-eqb}
 use lib.Dec.{eqb, leb}
 use lib.IntN.{ℤ, pos, negsuc}
 use lib.Signed.{nonNeg}
@@ -17,7 +17,7 @@ use Rattle.refusals.specs.Places.{Where, Placed, refused-at, at-place, refuse-a
 use Rattle.refusals.proofs.Answers.{no-value, refused-same, first-of, then-value, placed-value}
 use Rattle.rules.specs.Numbers.{M}
 use Rattle.formulas.specs.Readings.{Reading, reading-reach, judged, lowest, Brought, each-counts, readings-tested}
-use Rattle.formulas.specs.GivenInRuns.{OneOther, BelowZero, Negative, TooLarge, Bad, Lowest}
+use Rattle.formulas.specs.GivenInRuns.{OneOther, BelowZero, Negative, TooLarge, Bad}
 
 -- ---- one reading
 

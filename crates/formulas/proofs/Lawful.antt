@@ -1,8 +1,7 @@
 -- What the three kinds have in common: their rules' results are legal, tested readings are m legal values, and lists hold what was written. Assumes nothing.
 use mathlib.Core.Path.{_≡_, refl, sym, _∙_, ap, ap₂, subst}
 use mathlib.Core.List.{List, []}
-use Prim.Native.Nat.{ℕ, _≤_, _<_}
-use native.Mathlib.Omega.{arith}
+use Prim.Native.Nat.{ℕ, _≤_}
 use lib.IntN.{pos}
 use lib.ListN.{length, take}
 use lib.Seq.{length-take-le}

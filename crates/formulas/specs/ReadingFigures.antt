@@ -1,7 +1,6 @@
 -- Request c in figures: what is said of readings on each side of a limit, −2^63 in each part of each kind among them.
 use mathlib.Core.Path.{_≡_}
 use mathlib.Core.List.{List, [], _∷_, map}
-use Prim.Native.Nat.{ℕ}
 use lib.IntN.{ℤ, pos, negsuc}
 use Rattle.refusals.specs.Answer.{value}
 use Rattle.refusals.specs.Places.{Placed, refused-at}

@@ -1,23 +1,21 @@
 -- Readings looked at one by one: what all of them come to, while those before i passed. Assumes nothing.
 use mathlib.Core.Path.{_≡_, refl, sym, _∙_, ap}
-use mathlib.Core.List.{List, []}
-use mathlib.Core.Logic.{_⊎_, inl, inr}
+use mathlib.Core.List.{List}
 use Prim.Native.Nat.{ℕ, suc, _+_, _-_, _^_, _≤_, _<_}
 use native.Mathlib.Omega.{arith}
 use lib.IntN.{ℤ, pos}
-use lib.ListN.{length}
 use lib.Signed.{mag}
 use mir.Syntax.{w64}
 use mir.ValLaws.{toZ-ofZ}
 use Rattle.whole.proofs.Cases.{ap₃}
 use Rattle.whole.proofs.Machine.{back}
-use Rattle.lists.specs.All.{All, none, one}
+use Rattle.lists.specs.All.{All}
 use Rattle.refusals.specs.declared.Refusal.{Refusal}
 use Rattle.refusals.specs.declared.Refusal.the-variants.{ReadingCount}
 use Rattle.refusals.specs.declared.Verdict.{Verdict}
 use Rattle.refusals.specs.declared.Verdict.the-variants.{Passed, Refused}
-use Rattle.refusals.specs.Answer.{value, then}
-use Rattle.refusals.specs.Places.{Placed, at-place, verdict-says}
+use Rattle.refusals.specs.Answer.{then}
+use Rattle.refusals.specs.Places.{at-place, verdict-says}
 use Rattle.refusals.proofs.Answers.{then-value, then-refused}
 use Rattle.formulas.specs.Readings.{Reading, reading, judged, lowest, Brought, readings-tested, number-at}
 use Rattle.formulas.specs.Readings.{ball-readings, domain, plain-brought, balls-brought, domain-brought}

@@ -1,9 +1,9 @@
 -- Answers: a value is no refusal, and two one after the other give a value only where the first does. Assumes nothing.
-use mathlib.Core.Path.{_≡_, refl, sym, ap}
+use mathlib.Core.Path.{_≡_, refl, ap}
 use Prim.Native.Nat.{ℕ}
 use native.Mathlib.Omega.{arith}
 use Rattle.refusals.specs.Answer.{Outcome, value, refused, then, Answer}
-use Rattle.refusals.specs.Places.{Where, Placed, refused-at, at-place}
+use Rattle.refusals.specs.Places.{at-place}
 
 pub no-value : {R A : Type 0} {a : A} {n : R} → refused n ≡ value a → ⊥
 no-value e = let z : _≡_ {A = ℕ} 0 1 = cc in omega arith
@@ -33,17 +33,7 @@ then-value f e = ap (λ a. then a f) e
 pub then-refused : {R A B : Type 0} {a : Outcome R A} {n : R} (f : A → Outcome R B) → a ≡ refused n → then a f ≡ refused n
 then-refused f e = ap (λ a. then a f) e
 
--- a place changes no value, and a refusal has its number and that place
+-- a place changes no value
 pub placed-value : {A : Type 0} (k : ℕ) (a : Answer A) {x : A} → at-place k a ≡ value x → a ≡ value x
 placed-value k (value y) e = ap value (same-value e)
 placed-value k (refused n) e = absurd (no-value e)
-
-pub record PlacedRefusal {A : Type 0} (k : ℕ) (a : Answer A) (w : Where) : Type 0 where
-  pub refuses : a ≡ refused (w .number)
-  pub stands : k ≡ w .place
-
-pub placed-refused : {A : Type 0} (k : ℕ) (a : Answer A) {w : Where} → at-place k a ≡ refused w → PlacedRefusal k a w
-placed-refused k (value y) e = absurd (no-value (sym e))
-placed-refused k (refused n) e =
-    let same = refused-same e in
-    record { refuses = ap (λ (w : Where). refused (w .number)) same; stands = ap (λ (w : Where). w .place) same }

@@ -1,5 +1,5 @@
 -- `plain_readings` meets its contract. The loop's invariant: the readings before i passed. Assumes nothing.
-use mathlib.Core.Logic.{inl, inr}
+use mathlib.Core.Logic.{inl}
 use Prim.Native.Nat.{_-_}
 use borrow.Author.Needs.{needs}
 use Rattle.lists.specs.All.{none, one}
