@@ -3,11 +3,13 @@ refusal."""
 
 import random
 from itertools import product
+from math import isqrt
 
 import reader
 from cuts import all_cuts, flipped
 from checks import all_checks, longest, longest_exact
 from damage import damaged, misfielded, needed, roomy, short, wrong_readings
+from evaluator import M
 from figures import figures
 from formulas import CODES, large_run, small_run
 from frames import JOBS, PARTS, Case
@@ -23,19 +25,48 @@ def case_of(rng, data, readings):
     return Case(JOBS[parts], data, readings, roomy(rng, needed(data, parts)))
 
 
+def products_of(rng, scale, pairs):
+    """The products of these pairs of values, eight in a formula."""
+    for start in range(0, len(pairs), 8):
+        some = pairs[start : start + 8]
+        readings = [value for pair in some for value in pair]
+        program = [(CODES.index("multiply"), 2 * k, 2 * k + 1) for k in range(len(some))]
+        data = reader.pack(scale, len(readings), program, range(len(readings), len(readings) + len(some)))
+        yield case_of(rng, data, tuple(map(list, zip(*readings))))
+
+
 def small_products(rng):
-    """Every product of small plain values and balls and many of matryoshki, ties on both sides of zero among them; eight in a formula."""
+    """Every product of small plain values and balls and many of matryoshki, ties on both sides of zero among them."""
     for scale, parts in product((0, 1, 2, 4), (1, 2, 3)):
         doubts = list(product(range(3), repeat=parts - 1))
         operands = [(centre, *rest) for centre in range(-9, 10) for rest in doubts]
         pairs = list(product(operands, repeat=2))
         rng.shuffle(pairs)
-        for start in range(0, min(len(pairs), MOST_PAIRS), 8):
-            some = pairs[start : start + 8]
-            readings = [value for pair in some for value in pair]
-            program = [(CODES.index("multiply"), 2 * k, 2 * k + 1) for k in range(len(some))]
-            data = reader.pack(scale, len(readings), program, range(len(readings), len(readings) + len(some)))
-            yield case_of(rng, data, tuple([value[part] for value in readings] for part in range(parts)))
+        yield from products_of(rng, scale, pairs[:MOST_PAIRS])
+
+
+def with_remainder(scale, left, right):
+    """A factor beside `right`, an odd one, so that the product has the remainder `left` by Q: the least, and as large as is in reach."""
+    unit = 1 << scale
+    least = left * pow(right, -1, unit) % unit
+    most = min(M, ((M - 2) << scale) // right)
+    return {least, least + (most - least) // unit * unit} if least <= most else set()
+
+
+def remainders(rng):
+    """At each scale products whose remainder by Q is near 0, h or Q, small ones and the largest in reach, of both signs."""
+    for scale in range(31):
+        unit, root = 1 << scale, isqrt(M << scale) | 1
+        near = sorted({(place + by) % unit for place in (0, unit // 2) for by in (-2, -1, 0, 1, 2)})
+        factors = [(left, right) for right in (1, 3, min(root, M), M) for rest in near for left in with_remainder(scale, rest, right)]
+        centres = [(left * sign, right * other) for left, right in factors for sign, other in product((1, -1), repeat=2)]
+        for parts in (1, 2, 3):
+            yield from products_of(rng, scale, [tuple(beside(rng, centre, parts) for centre in pair) for pair in centres])
+
+
+def beside(rng, centre, parts):
+    """A value with this centre, and no doubt or little."""
+    return (centre, *(rng.randrange(2) if abs(centre) < M - 1 else 0 for _ in range(parts - 1)))
 
 
 def spoilt(rng, case):
@@ -142,6 +173,7 @@ def of_every_kind(rng):
     yield from cut_cases()
     yield from (Case("check", data) for data in all_checks())
     yield from random_cases(rng)
+    yield from remainders(rng)
 
 
 def all_cases(seed=1):

@@ -2,3 +2,4 @@
 pub mod Units
 pub mod Linear
 pub mod Products
+pub mod Remainders

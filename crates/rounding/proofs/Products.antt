@@ -1,18 +1,16 @@
 -- A product of two centres and its rounding on 64 bits: every part fits, and the machine holds what the rules say. Assumes nothing.
 use mathlib.Core.Path.{_≡_, sym, _∙_, ap, ap₂, subst}
-use Prim.Native.Nat.{ℕ, _+_, _*_, _^_, _≤_, _<_}
+use Prim.Native.Nat.{ℕ, _+_, _*_, _^_, _≤_}
 use native.Mathlib.Nat.{le-trans, le-mul-of-pos-right}
 use native.Mathlib.Omega.{arith}
-use lib.IntN.{ℤ, pos, natAbs, _-ℤ_, _*ℤ_}
+use lib.IntN.{ℤ, pos, natAbs, _*ℤ_}
 use lib.Pow.{pow-pos}
-use mir.Syntax.{w64}
-use mir.Val.{SFits}
 use Rattle.rules.specs.Numbers.{M, Q, h, top-scale, Round}
 use Rattle.rules.proofs.Rounding.{round-loss}
 use Rattle.whole.proofs.Ring.{_⊗_, x₀, x₁}
 use Rattle.whole.proofs.Size.{bounded, size-mul, size-near, size-sub-comm}
-use Rattle.whole.proofs.Machine.{back, back-is, fits-size, held-is}
-use Rattle.rounding.proofs.Units.{unit-bound, half-bound}
+use Rattle.whole.proofs.Machine.{back, back-is, held-is}
+use Rattle.rounding.proofs.Units.{half-bound}
 use Rattle.rounding.proofs.Linear.{two}
 
 -- a centre that was kept is as it was
@@ -31,6 +29,9 @@ product-size a b p q = bounded (two a b p q) (x₀ ⊗ x₁)
 pub product-held : (a b : ℤ) → natAbs a ≤ M → natAbs b ≤ M → back (back a *ℤ back b) ≡ a *ℤ b
 product-held a b p q = held-is (two a b p q) (x₀ ⊗ x₁) tt
 
+pub product-held-size : (a b : ℤ) → natAbs a ≤ M → natAbs b ≤ M → natAbs (back (back a *ℤ back b)) ≤ M * M
+product-held-size a b p q = subst (λ (z : ℤ). natAbs z ≤ M * M) (sym (product-held a b p q)) (product-size a b p q)
+
 -- the rounded product, times Q
 pub rounded-size : {F : ℕ} (p : ℤ) → F ≤ top-scale → natAbs p ≤ M * M → natAbs (Round F p *ℤ pos (Q F)) ≤ M * M + 2 ^ 30
 rounded-size {F} p f l =
@@ -47,30 +48,3 @@ round-size {F} p f l =
 pub round-held : {F : ℕ} (f : F ≤ top-scale) (a b : ℤ) {r : ℤ} → natAbs a ≤ M → natAbs b ≤ M → r ≡ Round F (a *ℤ b) → back r ≡ Round F (a *ℤ b)
 round-held {F} f a b p q e =
     ap back e ∙ back-is (Round F (a *ℤ b)) (omega (arith, round-size (a *ℤ b) f (product-size a b p q)))
-
--- what the machine makes of a·b − c·Q, where c is the rounded product
-module _ {F : ℕ} (f : F ≤ top-scale) (a b c : ℤ) (u : ℕ) (p : natAbs a ≤ M) (q : natAbs b ≤ M) (is-round : c ≡ Round F (a *ℤ b)) (is-unit : u ≡ Q F) where
-  unit-fits : natAbs (pos u) < 2 ^ 63
-  unit-fits = omega (arith, unit-bound f)
-
-  back-held : back c *ℤ back (pos u) ≡ Round F (a *ℤ b) *ℤ pos (Q F)
-  back-held =
-      ap₂ (λ (x y : ℤ). x *ℤ y) (round-held f a b p q is-round)
-      (back-is (pos u) unit-fits ∙ ap pos is-unit)
-
-  pub back-fits : SFits w64 (back c *ℤ back (pos u))
-  back-fits = subst (λ (z : ℤ). SFits w64 z) (sym back-held) (fits-size (omega (arith, rounded-size (a *ℤ b) f (product-size a b p q))))
-
-  lost-made : back (back a *ℤ back b) -ℤ back (back c *ℤ back (pos u)) ≡ a *ℤ b -ℤ Round F (a *ℤ b) *ℤ pos (Q F)
-  lost-made =
-      ap₂ (λ (x y : ℤ). x -ℤ y) (product-held a b p q)
-      (ap back back-held ∙ back-is (Round F (a *ℤ b) *ℤ pos (Q F)) (omega (arith, rounded-size (a *ℤ b) f (product-size a b p q))))
-
-  lost-small : natAbs (a *ℤ b -ℤ Round F (a *ℤ b) *ℤ pos (Q F)) < 2 ^ 63
-  lost-small = omega (arith, round-loss F (a *ℤ b), half-bound f)
-
-  pub lost-fits : SFits w64 (back (back a *ℤ back b) -ℤ back (back c *ℤ back (pos u)))
-  lost-fits = subst (λ (z : ℤ). SFits w64 z) (sym lost-made) (fits-size lost-small)
-
-  pub lost-held : back (back (back a *ℤ back b) -ℤ back (back c *ℤ back (pos u))) ≡ a *ℤ b -ℤ Round F (a *ℤ b) *ℤ pos (Q F)
-  lost-held = ap back lost-made ∙ back-is (a *ℤ b -ℤ Round F (a *ℤ b) *ℤ pos (Q F)) lost-small

@@ -2,7 +2,7 @@
 ghost use mathlib.Core.Path.{_≡_};
 ghost use Prim.Native.Nat.{_+_, _-_, _*_, _/_, _^_, _≤_, _<_};
 ghost use lib.Dec.{leb};
-ghost use lib.IntN.{pos, natAbs, _-ℤ_, _*ℤ_};
+ghost use lib.IntN.{pos, natAbs, _+ℤ_, _-ℤ_, _*ℤ_};
 ghost use Rattle.rules.specs.Numbers.{M, Q, h, top-scale, Round, Up};
 
 // M, the largest reach.
@@ -61,6 +61,26 @@ fn round(scale: u32, p: i64) -> i64
     (p + part(scale, 1, 0) as i64) >> scale
 }
 
+// What the floor drops when p is rounded: the remainder of p + h by Q, from 0 to Q - 1 also where p is negative. In
+// two's complement that is the low bits of p + h.
+fn remainder(scale: u32, p: i64) -> u64
+    requires { ⌜ (scale ≤ top-scale) × (natAbs p ≤ M * M) ⌝ }
+    ensures { λ r. ⌜ pos r ≡ p +ℤ pos (h scale) -ℤ Round scale p *ℤ pos (Q scale) ⌝ }
+{
+    let q = p + half(scale) as i64;
+    (q & (unit(scale) as i64 - 1)) as u64
+}
+
+// |x − y|.
+fn apart(x: u64, y: u64) -> u64
+    ensures { λ r. ⌜ r ≡ natAbs (pos x -ℤ pos y) ⌝ }
+{
+    if x < y {
+        return y - x;
+    }
+    x - y
+}
+
 // The largest remainder goes on before the floor, so only a whole number of units stays as it is.
 pub fn up(scale: u32, p: u64) -> u64
     requires { ⌜ (scale ≤ top-scale) × (p ≤ M * M + 2 ^ top-scale) ⌝ }
@@ -90,7 +110,7 @@ pub fn product_with_loss(scale: u32, a: i64, b: i64) -> Rounded
 {
     let p = a * b;
     let centre = round(scale, p);
-    let lost = whole::magnitude(p - centre * (unit(scale) as i64));
+    let lost = apart(remainder(scale, p), half(scale));
     Rounded { centre, lost }
 }
 

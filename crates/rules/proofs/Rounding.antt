@@ -2,14 +2,14 @@
 -- Up is at least p/Q, and no whole number between is. Assumes nothing.
 use mathlib.Core.Path.{_≡_, refl, sym, _∙_, ap, ap₂, subst}
 use mathlib.Core.List.{[], _∷_}
-use Prim.Native.Nat.{ℕ, zero, suc, _+_, _-_, _*_, _≤_, _<_}
+use Prim.Native.Nat.{ℕ, zero, suc, _+_, _-_, _*_, _%_, _≤_, _<_}
 use native.Mathlib.Nat.{le-div-iff-mul-le, lt-div-mul-add, pow-suc}
 use native.Mathlib.Omega.{arith}
 use lib.IntN.{ℤ, pos, natAbs, _+ℤ_, _-ℤ_, _*ℤ_}
 use lib.Pow.{pow-pos, shr-mono}
 use lib.Signed.{shrZ}
 use Rattle.rules.specs.Numbers.{Q, h, Round, Up}
-use Rattle.whole.proofs.Floor.{rest, rest-lt, floor-split, floor-shift}
+use Rattle.whole.proofs.Floor.{rest, rest-lt, rest-shift, floor-split, floor-shift}
 use Rattle.whole.proofs.Ring.{ring, _⊕_, _⊖_, _⊗_, x₀, x₁, x₂, x₃, x₄}
 use Rattle.whole.proofs.Size.{size-add, size-mul, size-gap}
 
@@ -42,6 +42,14 @@ round-lost F p =
     ring (p ∷ pos (h F) ∷ Round F p ∷ pos (Q F) ∷ []) (x₀ ⊖ x₂ ⊗ x₃) (x₀ ⊕ x₁ ⊖ x₂ ⊗ x₃ ⊖ x₁) refl
     ∙ ap (λ (z : ℤ). z -ℤ Round F p *ℤ pos (Q F) -ℤ pos (h F)) (round-split F p)
     ∙ ring (pos (remainder F p) ∷ pos (h F) ∷ Round F p ∷ pos (Q F) ∷ []) (x₂ ⊗ x₃ ⊕ x₀ ⊖ x₂ ⊗ x₃ ⊖ x₁) (x₀ ⊖ x₁) refl
+
+-- a natural number that is some units above p + h leaves what Round drops
+pub round-drops : (F : ℕ) (p : ℤ) (n u : ℕ) → pos u ≡ p +ℤ pos (h F) +ℤ pos n *ℤ pos (Q F)
+    → pos (u % Q F) ≡ p +ℤ pos (h F) -ℤ Round F p *ℤ pos (Q F)
+round-drops F p n u e =
+    ap pos (ap (λ (z : ℤ). rest z (Q F)) e ∙ rest-shift (p +ℤ pos (h F)) (pos n) (pow-pos F))
+    ∙ ring (Round F p ∷ pos (Q F) ∷ pos (remainder F p) ∷ []) x₂ (x₀ ⊗ x₁ ⊕ x₂ ⊖ x₀ ⊗ x₁) refl
+    ∙ ap (λ (z : ℤ). z -ℤ Round F p *ℤ pos (Q F)) (sym (round-split F p))
 
 pub round-loss : (F : ℕ) (p : ℤ) → natAbs (p -ℤ Round F p *ℤ pos (Q F)) ≤ h F
 round-loss F p =

@@ -6,9 +6,9 @@ use Prim.Native.Nat.{ℕ, suc, _+_, _-_, _*_, _/_, _%_, _<_}
 use native.Mathlib.Nat.{div-add-mod', mod-lt}
 use native.Mathlib.Omega.{arith}
 use lib.Arith.{digits-div}
-use lib.IntN.{ℤ, pos, negsuc, negℤ, _+ℤ_, _*ℤ_}
+use lib.IntN.{ℤ, pos, negsuc, natAbs, negℤ, _+ℤ_, _-ℤ_, _*ℤ_}
 use lib.Signed.{shrZ}
-use Rattle.whole.proofs.Ring.{ring, lit, neg, _⊕_, _⊗_, x₀, x₁, x₂, x₃}
+use Rattle.whole.proofs.Ring.{ring, lit, neg, _⊕_, _⊖_, _⊗_, x₀, x₁, x₂, x₃}
 
 -- what z is above the largest multiple of q that is not above it
 abbrev pub rest : ℤ → ℕ → ℕ
@@ -59,3 +59,15 @@ floor-shift z n {q} h =
     (ap (λ (x : ℤ). x +ℤ n *ℤ pos q) (floor-split z h)
     ∙ ring (shrZ z q ∷ n ∷ pos q ∷ pos (rest z q) ∷ []) (x₀ ⊗ x₂ ⊕ x₃ ⊕ x₁ ⊗ x₂) ((x₀ ⊕ x₁) ⊗ x₂ ⊕ x₃) refl)
     ∙ floor-unique (shrZ z q +ℤ n) (rest z q) (rest-lt z h)
+
+-- and what is left over stays
+pub rest-shift : (z n : ℤ) {q : ℕ} → 0 < q → rest (z +ℤ n *ℤ pos q) q ≡ rest z q
+rest-shift z n {q} h =
+    let y = z +ℤ n *ℤ pos q in
+    let k = shrZ z q in
+    let split : y ≡ (k +ℤ n) *ℤ pos q +ℤ pos (rest y q) =
+    floor-split y h ∙ ap (λ (x : ℤ). x *ℤ pos q +ℤ pos (rest y q)) (floor-shift z n h) in
+    ap natAbs
+    (ring (k ∷ n ∷ pos q ∷ pos (rest y q) ∷ []) x₃ ((x₀ ⊕ x₁) ⊗ x₂ ⊕ x₃ ⊖ (x₀ ⊕ x₁) ⊗ x₂) refl
+    ∙ ap (λ (x : ℤ). x -ℤ (k +ℤ n) *ℤ pos q) (sym split ∙ ap (λ (x : ℤ). x +ℤ n *ℤ pos q) (floor-split z h))
+    ∙ ring (k ∷ n ∷ pos q ∷ pos (rest z q) ∷ []) (x₀ ⊗ x₂ ⊕ x₃ ⊕ x₁ ⊗ x₂ ⊖ (x₀ ⊕ x₁) ⊗ x₂) x₃ refl)
