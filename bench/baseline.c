@@ -25,6 +25,20 @@ static inline uint64_t up(uint64_t p, uint32_t scale)
     return (p + (UINT64_C(1) << scale) - 1) >> scale;
 }
 
+/* T/a and a half, rounded down, where T is Q times Q: below zero a tie goes the other way than in the quotient of the sizes. */
+static inline int64_t inverse(int64_t a, uint64_t t)
+{
+    uint64_t n = size(a), quotient = (t + ((n - (a < 0)) >> 1)) / n;
+    return a < 0 ? -(int64_t)quotient : (int64_t)quotient;
+}
+
+/* T times a doubt, divided by a product and rounded up. It fits: a doubt that does not reach 0 is below 2^30, and the product below 2^62. */
+static inline uint64_t doubt_up(uint64_t doubt, uint64_t factor, uint64_t other, uint32_t scale)
+{
+    uint64_t divisor = factor * other;
+    return ((doubt << 2 * scale) + divisor - 1) / divisor;
+}
+
 margins_formula baseline_check(const uint8_t *bytes, size_t length)
 {
     formula f;
@@ -52,6 +66,7 @@ margins_reply baseline_plain(const uint8_t *bytes, size_t length,
     for (size_t i = 0; i < f.inputs; i++)
         work[i] = readings[i];
     int64_t half = f.scale ? INT64_C(1) << (f.scale - 1) : 0;
+    uint64_t t = UINT64_C(1) << 2 * f.scale;
     for (size_t k = 0; k < f.instructions; k++) {
         const instruction *at = &f.program[k];
         int64_t centre;
@@ -69,10 +84,15 @@ margins_reply baseline_plain(const uint8_t *bytes, size_t length,
             centre = work[at->left] - work[at->right];
             break;
         default:
-            if (at->code == MULTIPLY)
+            if (at->code == MULTIPLY) {
                 centre = (work[at->left] * work[at->right] + half) >> f.scale;
-            else
+            } else if (at->code == RECIPROCAL) {
+                if (work[at->left] == 0)
+                    return refused(MARGINS_REFUSED_MAY_BE_ZERO, k);
+                centre = inverse(work[at->left], t);
+            } else {
                 centre = at->constant;
+            }
         }
         if (size(centre) > M)
             return refused(MARGINS_REFUSED_OUT_OF_REACH, k);
@@ -111,6 +131,7 @@ margins_reply baseline_ball(const uint8_t *bytes, size_t length,
     }
     int64_t half = f.scale ? INT64_C(1) << (f.scale - 1) : 0;
     int64_t below_unit = (INT64_C(1) << f.scale) - 1;
+    uint64_t t = UINT64_C(1) << 2 * f.scale;
     for (size_t k = 0; k < f.instructions; k++) {
         const instruction *at = &f.program[k];
         int64_t centre;
@@ -142,6 +163,15 @@ margins_reply baseline_ball(const uint8_t *bytes, size_t length,
             break;
         }
         default:
+            if (at->code == RECIPROCAL) {
+                int64_t a = work_centres[at->left];
+                uint64_t r = work_margins[at->left], n = size(a);
+                if (n <= r)
+                    return refused(MARGINS_REFUSED_MAY_BE_ZERO, k);
+                centre = inverse(a, t);
+                margin = doubt_up(r, n - r, n, f.scale) + ((uint64_t)(centre * a) != t);
+                break;
+            }
             centre = at->constant;
             margin = at->code - COEFFICIENT;
         }
@@ -195,6 +225,7 @@ margins_reply baseline_admit(const uint8_t *bytes, size_t length,
         work_margins[i] = (uint64_t)margins[i];
     }
     uint64_t half = f.scale ? UINT64_C(1) << (f.scale - 1) : 0;
+    uint64_t t = UINT64_C(1) << 2 * f.scale;
     for (size_t k = 0; k < f.instructions; k++) {
         const instruction *at = &f.program[k];
         int64_t middle;
@@ -231,6 +262,16 @@ margins_reply baseline_admit(const uint8_t *bytes, size_t length,
             break;
         }
         default:
+            if (at->code == RECIPROCAL) {
+                int64_t a = work_middles[at->left];
+                uint64_t strays_a = work_strays[at->left], r = work_margins[at->left], n = size(a);
+                if (n <= strays_a + r)
+                    return refused(MARGINS_REFUSED_MAY_BE_ZERO, k);
+                middle = inverse(a, t);
+                stray = doubt_up(strays_a, n - strays_a, n, f.scale);
+                margin = doubt_up(r, n - strays_a - r, n - strays_a, f.scale) + 1;
+                break;
+            }
             middle = at->constant;
             stray = 0;
             margin = at->code - COEFFICIENT;

@@ -21,7 +21,7 @@ static uint32_t test_header(int64_t scale, int64_t inputs, size_t codes, size_t 
 
 /* Adds the widths to bits. A number below zero is, without its sign, beyond every limit. */
 static uint32_t test_instructions(const int64_t *codes, const int64_t *firsts, const int64_t *seconds, size_t count, uint64_t value,
-                                  size_t *bits)
+                                  int64_t scale, size_t *bits)
 {
     size_t sum = *bits;
     for (size_t k = 0; k < count; k++, value++) {
@@ -44,11 +44,19 @@ static uint32_t test_instructions(const int64_t *codes, const int64_t *firsts, c
             sum += 23;
             break;
         default:
-            if (codes[k] != COEFFICIENT)
+            if (codes[k] == MARGINS_CODE_COEFFICIENT) {
+                if (size(firsts[k]) > M || (uint64_t)seconds[k] > M - size(firsts[k]))
+                    return MARGINS_REFUSED_CONSTANT;
+                sum += 66;
+                break;
+            }
+            if (codes[k] != MARGINS_CODE_RECIPROCAL)
                 return MARGINS_REFUSED_CODE;
-            if (size(firsts[k]) > M || (uint64_t)seconds[k] > M - size(firsts[k]))
-                return MARGINS_REFUSED_CONSTANT;
-            sum += 66;
+            if (scale > MOST_SCALE_OF_A_RECIPROCAL)
+                return MARGINS_REFUSED_RECIPROCAL_SCALE;
+            if ((uint64_t)firsts[k] >= value)
+                return MARGINS_REFUSED_OPERAND;
+            sum += 13;
         }
     }
     *bits = sum;
@@ -90,10 +98,12 @@ static inline void put_instruction(writer *w, uint64_t code, int64_t first, int6
         put(w, code, 3), put(w, (uint32_t)first, 32);
     else if (code == NEGATE)
         put(w, code << 10 | (uint64_t)first, 13);
-    else if (code == COEFFICIENT)
+    else if (code <= MULTIPLY)
+        put(w, code << 20 | (uint64_t)first << 10 | (uint64_t)second, 23);
+    else if (code == MARGINS_CODE_COEFFICIENT)
         put(w, code, 3), put(w, (uint32_t)first, 32), put(w, (uint64_t)second, 31);
     else
-        put(w, code << 20 | (uint64_t)first << 10 | (uint64_t)second, 23);
+        put(w, code << 10 | (uint64_t)first, 13);
 }
 
 margins_packed baseline_pack(int64_t scale, int64_t inputs,
@@ -107,7 +117,7 @@ margins_packed baseline_pack(int64_t scale, int64_t inputs,
     if (refusal)
         return not_packed(refusal);
     size_t bits = 32 + 10 * outputs_length;
-    refusal = test_instructions(codes, firsts, seconds, codes_length, (uint64_t)inputs, &bits);
+    refusal = test_instructions(codes, firsts, seconds, codes_length, (uint64_t)inputs, scale, &bits);
     if (refusal)
         return not_packed(refusal);
     for (size_t i = 0; i < outputs_length; i++)
@@ -154,7 +164,11 @@ margins_formula baseline_unpack(const uint8_t *bytes, size_t length,
             codes[k] = at->code, firsts[k] = at->left, seconds[k] = at->right;
             break;
         default:
-            codes[k] = COEFFICIENT, firsts[k] = at->constant, seconds[k] = at->code - COEFFICIENT;
+            if (at->code == RECIPROCAL) {
+                codes[k] = MARGINS_CODE_RECIPROCAL, firsts[k] = at->left, seconds[k] = 0;
+                break;
+            }
+            codes[k] = MARGINS_CODE_COEFFICIENT, firsts[k] = at->constant, seconds[k] = at->code - COEFFICIENT;
         }
     }
     for (size_t i = 0; i < f.outputs; i++)

@@ -7,7 +7,9 @@
 
 #define M INT64_C(2147483647)
 
-enum { CONSTANT, NEGATE, ADD, SUBTRACT, MULTIPLY, COEFFICIENT };
+/* A coefficient is the last of them, unlike in margins.h. */
+enum { CONSTANT, NEGATE, ADD, SUBTRACT, MULTIPLY, RECIPROCAL, COEFFICIENT };
+enum { MOST_SCALE_OF_A_RECIPROCAL = 16 };
 
 /* Eight bytes, so that decoding an instruction stores one word. A coefficient's margin has no other place than its code: it is added there. */
 typedef struct {
@@ -78,10 +80,24 @@ static uint32_t read_header(const uint8_t *bytes, size_t length, formula *f)
     return MARGINS_DONE;
 }
 
-/* What follows a code over MULTIPLY. A constant of -2^31 is out of reach with every margin. */
+static inline uint32_t read_reciprocal(uint64_t word, size_t left, uint32_t scale, uint32_t value, instruction *at)
+{
+    if (scale > MOST_SCALE_OF_A_RECIPROCAL)
+        return MARGINS_REFUSED_RECIPROCAL_SCALE;
+    if (left < 13)
+        return MARGINS_REFUSED_ENDED;
+    uint32_t name = word >> 51 & 1023;
+    if (name >= value)
+        return MARGINS_REFUSED_OPERAND;
+    at->code = RECIPROCAL;
+    at->left = (uint16_t)name;
+    return MARGINS_DONE;
+}
+
+/* What follows another code over MULTIPLY. A constant of -2^31 is out of reach with every margin. */
 static inline uint32_t read_coefficient(const uint8_t *bytes, size_t length, size_t bit, uint64_t word, instruction *at)
 {
-    if (word >> 61 != COEFFICIENT)
+    if (word >> 61 != MARGINS_CODE_COEFFICIENT)
         return MARGINS_REFUSED_CODE;
     if (8 * length - bit < 66)
         return MARGINS_REFUSED_ENDED;
@@ -107,11 +123,13 @@ static uint32_t read_formula(const uint8_t *bytes, size_t length, formula *f)
         uint32_t code = (uint32_t)(word >> 61);
         if (left < 3)
             return MARGINS_REFUSED_ENDED;
-        if (code > MULTIPLY) {
-            refusal = read_coefficient(bytes, length, bit, word, &f->program[k]);
+        /* Without the hint the compiler lays the other codes out behind these, which costs each of them two jumps. */
+        if (__builtin_expect(code > MULTIPLY, 0)) {
+            refusal = code == MARGINS_CODE_RECIPROCAL ? read_reciprocal(word, left, f->scale, value, &f->program[k])
+                                                      : read_coefficient(bytes, length, bit, word, &f->program[k]);
             if (refusal)
                 return refusal;
-            bit += 66;
+            bit += code == MARGINS_CODE_RECIPROCAL ? 13 : 66;
             continue;
         }
         f->program[k].code = code;

@@ -185,7 +185,7 @@ static void growth(void)
 
 int main(int arguments, char **argument)
 {
-    const workload w[] = {dot_product(), polynomial(), mix(512), coefficients()};
+    const workload w[] = {dot_product(), polynomial(), mix(512), coefficients(), reciprocals()};
     const int all = sizeof w / sizeof *w;
     if (arguments == 1) {
         ratios(w, all);

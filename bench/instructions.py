@@ -5,7 +5,7 @@ import subprocess
 import sys
 
 JOBS = ("check", "plain", "ball", "admit", "pack", "unpack")
-WORKLOADS = ("dot product of 8", "polynomial of degree 15", "mix of 512", "coefficients, degree 21")
+WORKLOADS = ("dot product of 8", "polynomial of degree 15", "mix of 512", "coefficients, degree 21", "reciprocals, 8 quotients")
 BASELINE, LIBRARY = 0, 1
 RUNS = 100
 

@@ -2,7 +2,7 @@
 
 #include <stdio.h>
 
-enum { CONSTANT, NEGATE, ADD, SUBTRACT, MULTIPLY, COEFFICIENT };
+enum { CONSTANT, NEGATE, ADD, SUBTRACT, MULTIPLY, COEFFICIENT, RECIPROCAL };
 enum { SCALE = 16, UNIT = 1 << SCALE, TERMS = 8, DEGREE = 15, COEFFICIENTS_DEGREE = 21, MOST_MARGIN = 10, RECENT = 8 };
 
 /* The formula of a workload while it is packed. */
@@ -123,6 +123,24 @@ workload coefficients(void)
         coefficient(&p, centre, any(&p, MOST_MARGIN));
         two(&p, ADD, sum + 1, sum + 2);
     }
+    return finish(&p);
+}
+
+/* The divisors are 1 to 2 in size and of both signs. */
+workload reciprocals(void)
+{
+    packing p = start(2 * TERMS, 3 * TERMS - 1);
+    snprintf(p.made.name, sizeof p.made.name, "reciprocals, %d quotients", TERMS);
+    for (uint32_t i = TERMS; i < 2 * TERMS; i++) {
+        int64_t divisor = UNIT + any(&p, UNIT);
+        p.made.middles[i] = i % 2 ? divisor : -divisor;
+    }
+    for (uint32_t i = 0; i < TERMS; i++)
+        one(&p, RECIPROCAL, TERMS + i);
+    for (uint32_t i = 0; i < TERMS; i++)
+        two(&p, MULTIPLY, i, 2 * TERMS + i);
+    for (uint32_t i = 1; i < TERMS; i++)
+        two(&p, ADD, i == 1 ? 3 * TERMS : 4 * TERMS + i - 2, 3 * TERMS + i);
     return finish(&p);
 }
 

@@ -22,7 +22,10 @@ workload polynomial(void);
 /* Horner's rule for a polynomial of degree 21 whose constants have margins: 22 of 64 instructions. */
 workload coefficients(void);
 
-/* Instructions of all codes but a coefficient's in an order that looks random; at most 512 of them. */
+/* 16 inputs, 8 quotients and 7 sums: 8 reciprocals in 23 instructions. */
+workload reciprocals(void);
+
+/* Instructions of all codes but a coefficient's and a reciprocal's in an order that looks random; at most 512 of them. */
 workload mix(uint32_t instructions);
 
 #endif

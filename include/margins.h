@@ -38,7 +38,7 @@ extern "C" {
 #endif
 
 /* The version of this interface; it grows when a program written for the one before may need a change. */
-#define MARGINS_INTERFACE 3
+#define MARGINS_INTERFACE 4
 
 /* Enough for every formula. Values are the inputs and the instructions' results; a work list of so many places is never too short. */
 #define MARGINS_MOST_INPUTS 16
@@ -48,8 +48,9 @@ extern "C" {
 /* The longest formula: 32 bits of header, 512 coefficients of 66 bits, 16 outputs of 10 bits. */
 #define MARGINS_MOST_BYTES 4248
 
-/* Why there is no answer. A refusal is one of these numbers, 0 is none; a later library may give further ones. 9 is not given any more:
- * 13 to 15 stand in its place, after 1 to 8 and before 10. Where nothing is said of `place` it is 0. */
+/* Why there is no answer. A refusal is one of these numbers, 0 is none; a later library may give further ones. 9 is not given any more.
+ * They are tested in this order: 1 to 8 and 16 field by field, 13 to 15, 10, then instruction by instruction 17 and 11. Where nothing is
+ * said of `place` it is 0. */
 enum {
     MARGINS_DONE = 0,
     MARGINS_REFUSED_ENDED = 1,              /* the bytes end inside a field */
@@ -57,11 +58,12 @@ enum {
     MARGINS_REFUSED_SCALE = 3,              /* the scale is outside 0 to 30 */
     MARGINS_REFUSED_COUNT = 4,              /* the number of inputs, instructions or outputs is outside its limits, or the
                                              * instructions' lists differ in length */
-    MARGINS_REFUSED_CODE = 5,               /* the code is outside 0 to 5 */
+    MARGINS_REFUSED_CODE = 5,               /* the code is outside 0 to 6 */
     MARGINS_REFUSED_OPERAND = 6,            /* an operand or output names no permitted value */
     MARGINS_REFUSED_CONSTANT = 7,           /* a constant is outside -2147483647 to 2147483647, or its margin is below 0 or
                                              * reaches outside */
     MARGINS_REFUSED_PADDING = 8,            /* a padding bit is set or a byte follows */
+    MARGINS_REFUSED_RECIPROCAL_SCALE = 16,  /* a reciprocal in a formula whose scale is over 16: pack it with a scale of 0 to 16 */
     MARGINS_REFUSED_READING_COUNT = 13,     /* a list of readings has more or fewer than the formula has inputs: margins_check tells
                                              * how many those are */
     MARGINS_REFUSED_NEGATIVE_MARGIN = 14,   /* reading `place`, counted from 0, has a negative stray or margin; those before it are
@@ -69,6 +71,9 @@ enum {
     MARGINS_REFUSED_READING_TOO_LARGE = 15, /* reading `place`, counted from 0, has |centre| + stray + margin over 2147483647; those
                                              * before it are good */
     MARGINS_REFUSED_NO_ROOM = 10,           /* a list to be written is too short */
+    MARGINS_REFUSED_MAY_BE_ZERO = 17,       /* instruction `place`, counted from 0, is a reciprocal of what may be 0: its operand is 0, or
+                                             * its margin, with the stray in an admission, reaches 0. Keep it away from 0, or shrink the
+                                             * margins or the domain, so that |centre| is over margin plus stray */
     MARGINS_REFUSED_OUT_OF_REACH = 11,      /* the result of instruction `place`, counted from 0, is out of reach: shrink the readings
                                              * or the domain, or use a smaller scale */
     MARGINS_REFUSED_FORM = 12               /* the program's input has another form; no function gives it */
@@ -85,16 +90,18 @@ MARGINS_IN_HEADER const char *margins_refusal_text(uint32_t refusal)
     case MARGINS_REFUSED_COUNT:
         return "the number of inputs, instructions or outputs is outside its limits, "
                "or the instructions' lists differ in length";
-    case MARGINS_REFUSED_CODE: return "the code is outside 0 to 5";
+    case MARGINS_REFUSED_CODE: return "the code is outside 0 to 6";
     case MARGINS_REFUSED_OPERAND: return "an operand or output names no permitted value";
     case MARGINS_REFUSED_CONSTANT:
         return "a constant is outside -2147483647 to 2147483647, "
                "or its margin is below 0 or reaches outside";
     case MARGINS_REFUSED_PADDING: return "a padding bit is set or a byte follows";
+    case MARGINS_REFUSED_RECIPROCAL_SCALE: return "a reciprocal in a formula whose scale is over 16";
     case MARGINS_REFUSED_READING_COUNT: return "the number of readings isn't that of the inputs";
     case MARGINS_REFUSED_NEGATIVE_MARGIN: return "a reading has a negative stray or margin";
     case MARGINS_REFUSED_READING_TOO_LARGE: return "a reading's |centre| + stray + margin is over 2147483647";
     case MARGINS_REFUSED_NO_ROOM: return "a list to be written is too short";
+    case MARGINS_REFUSED_MAY_BE_ZERO: return "a reciprocal of what may be 0";
     case MARGINS_REFUSED_OUT_OF_REACH: return "a step's result is out of reach";
     case MARGINS_REFUSED_FORM: return "the program's input has another form";
     default: return "a refusal that this header does not know";
@@ -103,7 +110,7 @@ MARGINS_IN_HEADER const char *margins_refusal_text(uint32_t refusal)
 
 /* refusal 0: that many outputs were written, and place is 0. Else no output was written and outputs is 0; place says where, counted from
  * 0: the reading with MARGINS_REFUSED_NEGATIVE_MARGIN and MARGINS_REFUSED_READING_TOO_LARGE, the instruction with
- * MARGINS_REFUSED_OUT_OF_REACH; it is 0 with the others. */
+ * MARGINS_REFUSED_MAY_BE_ZERO and MARGINS_REFUSED_OUT_OF_REACH; it is 0 with the others. */
 typedef struct {
     uint32_t refusal;
     uint32_t outputs;
@@ -142,7 +149,7 @@ typedef char margins_reading_has_16_bytes[sizeof(margins_reading) == 16 ? 1 : -1
 
 /* In each run: a list of readings has exactly a place for each input; a work list has inputs + instructions places or more
  * (MARGINS_MOST_VALUES are always enough), an output list a place for each output or more (MARGINS_MOST_OUTPUTS).
- * After refusal 0 the work lists hold all values, after 11 those before the refused instruction; later places, and with the other
+ * After refusal 0 the work lists hold all values, after 11 and 17 those before the refused instruction; later places, and with the other
  * refusals all, keep what they held. */
 
 /* Are these bytes a formula? */
@@ -193,13 +200,15 @@ MARGINS_MUST_USE margins_reply margins_admit(
 /* A formula as lists. Instruction k has the code codes[k] and the fields firsts[k] and seconds[k]; it makes value inputs + k and may name
  * only smaller values. The outputs may name any value. */
 enum {
-    MARGINS_CODE_CONSTANT = 0,   /* first: the constant, exact, -2147483647 to 2147483647; it has no second */
-    MARGINS_CODE_NEGATE = 1,     /* first: the operand; it has no second */
-    MARGINS_CODE_ADD = 2,        /* first and second: the operands */
-    MARGINS_CODE_SUBTRACT = 3,   /* first: the operand from which the second is taken */
-    MARGINS_CODE_MULTIPLY = 4,   /* first and second: the operands */
-    MARGINS_CODE_COEFFICIENT = 5 /* a constant with a margin; first: its centre, second: how far the truth may be from it, at least 0;
-                                  * |centre| + margin is at most 2147483647 */
+    MARGINS_CODE_CONSTANT = 0,    /* first: the constant, exact, -2147483647 to 2147483647; it has no second */
+    MARGINS_CODE_NEGATE = 1,      /* first: the operand; it has no second */
+    MARGINS_CODE_ADD = 2,         /* first and second: the operands */
+    MARGINS_CODE_SUBTRACT = 3,    /* first: the operand from which the second is taken */
+    MARGINS_CODE_MULTIPLY = 4,    /* first and second: the operands */
+    MARGINS_CODE_COEFFICIENT = 5, /* a constant with a margin; first: its centre, second: how far the truth may be from it, at least 0;
+                                   * |centre| + margin is at most 2147483647 */
+    MARGINS_CODE_RECIPROCAL = 6   /* 1 divided by the operand, in a formula whose scale is 0 to 16; first: the operand; it has no second.
+                                   * x/y is x times the reciprocal of y */
 };
 
 /* Packs the lists. They may hold any numbers; a second field that the code does not have is not looked at. The fields are tested in the

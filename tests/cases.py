@@ -1,5 +1,5 @@
-"""The cases that compare.py runs: the documents' figures, small products, each limit, random ones, some of them spoilt, and each place of a
-refusal."""
+"""The cases that compare.py runs: the documents' figures, small products, reciprocals at each scale, each limit, random ones, some of them
+spoilt, and each place of a refusal."""
 
 import random
 from itertools import product
@@ -7,8 +7,9 @@ from math import isqrt
 
 import reader
 from cuts import all_cuts, flipped
-from checks import all_checks, longest, longest_exact
+from checks import all_checks, longest, longest_divided, longest_exact
 from damage import damaged, misfielded, needed, roomy, short, wrong_readings
+from dividing import all_by_job, quotients, reciprocals
 from evaluator import M
 from figures import figures
 from formulas import CODES, large_run, small_run
@@ -126,8 +127,9 @@ def lengths_near(rng):
 
 def longest_runs():
     """The longest formulas in every job, with just enough room and with a place too few in each list."""
-    for data, parts in product((longest(), longest_exact()), (1, 2, 3)):
-        readings = tuple([(-1) ** i * (i << 20) if part == 0 else i * part for i in range(16)] for part in range(parts))
+    for data, parts in product((longest(), longest_exact(), longest_divided()), (1, 2, 3)):
+        centres = [(-1) ** i * (i + 1 << 14) for i in range(16)]
+        readings = tuple(centres if part == 0 else [i * part for i in range(16)] for part in range(parts))
         enough = needed(data, parts)
         yield Case(JOBS[parts], data, readings, enough)
         for number in range(2 * parts):
@@ -170,6 +172,7 @@ def of_every_kind(rng):
     yield from lengths_near(rng)
     yield from longest_runs()
     yield from weighed(rng)
+    yield from (case_of(rng, *run) for run in (*reciprocals(), *quotients()))
     yield from cut_cases()
     yield from (Case("check", data) for data in all_checks())
     yield from random_cases(rng)
@@ -179,3 +182,4 @@ def of_every_kind(rng):
 def all_cases(seed=1):
     yield from by_both_doors(of_every_kind(random.Random(seed)))
     yield from all_places()
+    yield from all_by_job()

@@ -22,8 +22,12 @@ DIFFERENCES_SHOWN = 5
 SHARE_OF_ADMISSIONS = 0.5
 LEAST_SHARE_MULTIPLIED = 0.4
 LEAST_SHARE_DOUBTFUL = 0.2
+LEAST_SHARE_DIVIDED = 0.1
+TRIED_DIVIDING = ("demand 2 towards 0", "demand 3 with a reciprocal")
+LEAST_TRIED_DIVIDING = 2000
 LONGEST = 4248
 LONGEST_EXACT = 2264
+LONGEST_DIVIDED = 856
 MISSING_SHOWN = 20
 
 
@@ -31,7 +35,7 @@ class Comparison:
     def __init__(self, command):
         self.command = command
         self.rng = random.Random(2)
-        self.passed = self.failed = self.multiplied = self.doubtful = 0
+        self.passed = self.failed = self.multiplied = self.doubtful = self.divided = 0
         self.refusals = {job: Counter() for job in frames.JOBS}
         self.met = set()
         self.tried = Counter()
@@ -55,8 +59,8 @@ class Comparison:
         """The second reader itself on what the documents say of a header, and the length of the longest formulas."""
         for data, want in checks.figures():
             self.judge(header(data) == want, frames.Case("check", data), f"  the documents have {want}")
-        lengths = len(checks.longest()), len(checks.longest_exact())
-        self.expect(lengths == (LONGEST, LONGEST_EXACT), "the longest formula has another length")
+        lengths = len(checks.longest()), len(checks.longest_exact()), len(checks.longest_divided())
+        self.expect(lengths == (LONGEST, LONGEST_EXACT, LONGEST_DIVIDED), "the longest formula has another length")
 
     def chunk(self, some):
         """Compares some cases, and a plain and a ball case inside the domain of each admission that is picked."""
@@ -89,14 +93,14 @@ class Comparison:
             names = {name for name, *_ in formula(case.data)[1]}
             self.multiplied += "multiply" in names
             self.doubtful += "coefficient" in names
+            self.divided += "reciprocal" in names
             if same and case.job in ("ball", "records"):
                 self.demand_2(case, want.values)
 
     def demand_2(self, case, values):
-        enclosed = demands.encloses(self.rng, case.data, list(zip(*case.readings)), values)
-        if enclosed is not None:
+        for turn, enclosed in enumerate(demands.encloses(self.rng, case.data, list(zip(*case.readings)), values)):
             self.judge(enclosed, case, "  demand 2 fails")
-            self.tried["demand 2"] += 1
+            self.tried["demand 2 towards 0" if turn else "demand 2"] += 1
 
     def demand_3(self, admission, plain, ball):
         balls = list(zip(*ball[0].readings))
@@ -104,20 +108,25 @@ class Comparison:
         kept = demands.keeps(self.rng, admission[0].data, balls, answer(*admission)[1], *answers)
         self.judge(kept, admission[0], "  demand 3 fails on the balls", f"    {balls}")
         self.tried["demand 3"] += 1
+        self.tried["demand 3 with a reciprocal"] += demands.divides(formula(admission[0].data)[1])
 
     def sanity(self):
         """Whether the cases are what they are meant to be: each refusal in each job, at each of its places, and enough that is accepted."""
         for job, counts in self.refusals.items():
             print(f"{job}: " + ", ".join(f"{number}: {counts[number]}" for number in sorted(counts)))
-        self.expect(all(self.refusals["check"][number] for number in range(9)), "check: a refusal that no case meets")
+        self.expect(all(self.refusals["check"][number] for number in (*range(9), 16)), "check: a refusal that no case meets")
         missing = sorted(met.required() - self.met)
         self.expect(not missing, f"{len(missing)} things that no case meets: " + "; ".join(missing[:MISSING_SHOWN]))
         total = sum(sum(counts.values()) for counts in self.refusals.values())
         runs = total - sum(self.refusals["check"].values())
         tried = ", ".join(f"{name} {count}" for name, count in sorted(self.tried.items()))
-        print(f"cases {total}, accepted with a multiplication {self.multiplied}, with a coefficient {self.doubtful}, {tried}")
+        accepted = f"with a multiplication {self.multiplied}, with a coefficient {self.doubtful}, with a reciprocal {self.divided}"
+        print(f"cases {total}, accepted {accepted}; {tried}")
         self.expect(self.multiplied > LEAST_SHARE_MULTIPLIED * runs, "too few cases are accepted and multiply")
         self.expect(self.doubtful > LEAST_SHARE_DOUBTFUL * runs, "too few cases are accepted and have a coefficient")
+        self.expect(self.divided > LEAST_SHARE_DIVIDED * runs, "too few cases are accepted and divide")
+        fewest = min(self.tried[name] for name in TRIED_DIVIDING)
+        self.expect(fewest > LEAST_TRIED_DIVIDING, "too seldom a demand is tried on a formula that divides")
 
     def expect(self, good, words):
         self.passed += good

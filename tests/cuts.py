@@ -14,11 +14,13 @@ HEADERS = (
 )
 # Each a code with its fields, after so many values that operand 9 is permitted and operand 1000 is not.
 REFUSED = (
-    *((6, 0, 0), (7, 0, 0), (6, 1000, 1000), (0, -(1 << 31)), (1, 1000), (4, 1000, 0), (4, 0, 1000), (2, 1000, 1000)),
+    *((7, 0, 0), (7, 1000, 1000), (6, 1000), (6, 1023), (0, -(1 << 31)), (1, 1000), (4, 1000, 0), (4, 0, 1000), (2, 1000, 1000)),
     *((5, -(1 << 31), 0), (5, -(1 << 31), M), (5, M, 1), (5, -M, 1), (5, 1, M), (5, M, M)),
 )
 # Coefficients that are permitted: the least and the largest margins, alone and with the largest reach.
 COEFFICIENTS = ((5, 0, 0), (5, 2, 1), (5, -1, 0), (5, 0, M), (5, M - 1, 1), (5, 1 - M, 1), (5, -M, 0), (5, -1, M - 1), (5, 1 << 30, (1 << 30) - 1))
+# Scales around the largest that reciprocals are for.
+SCALES_DIVIDED = (0, 15, 16, 17, 30)
 INPUTS = 10
 MOST_OUTPUTS = 16
 PLACES_IN_A_BYTE = 8
@@ -63,10 +65,31 @@ def margins_near():
                 yield reader.pack(4, INPUTS, [(5, centre, margin), (4, 10, 9), (2, 11, 10)], [10, 11, 12])
 
 
+def reciprocals():
+    """Reciprocals at every place within a byte and at every distance from the end of the bytes, at scales that they are for and at others:
+    of the first value, of the last, of none yet, and cut behind the code and inside the operand."""
+    for before, count, scale in product(range(PLACES_IN_A_BYTE), range(1, MOST_OUTPUTS + 1), (16, 17)):
+        for name in (0, INPUTS + before - 1, INPUTS + before, 1023):
+            yield reader.pack(scale, INPUTS, [(4, 9, 0)] * before + [(6, name)], [9] * count)
+    for before, scale, name in product(range(PLACES_IN_A_BYTE), SCALES_DIVIDED, (9, 1000)):
+        yield from with_cuts(reader.pack(scale, INPUTS, [(4, 9, 0)] * before + [(6, name)], [INPUTS + before]))
+    for before, scale in product(range(PLACES_IN_A_BYTE), range(32)):
+        yield reader.pack(scale, INPUTS, [(1, 9)] * before + [(6, 9)] * 3, [INPUTS + before] * 2)
+
+
+def two_refused():
+    """Two instructions that are refused, one behind the other: the first one's refusal, at a scale that reciprocals are not for too."""
+    rows = (6, 0), (6, 1000), (7, 0, 0), (4, 1000, 0), (0, -(1 << 31)), (5, M, 1), (1, 9)
+    for before, scale, (first, second) in product((0, 3, 5), (16, 17), product(rows, repeat=2)):
+        yield reader.pack(scale, INPUTS, [(4, 9, 0)] * before + [first, second], [0])
+
+
 def flips():
-    """Every bit of files with coefficients, flipped."""
-    for program in ([(5, 2, 1)], [(4, 9, 0), (5, -M, 0), (4, 10, 11)], [(1, 0), (5, M - 1, 1), (5, 0, 0), (2, 11, 12)]):
-        data = reader.pack(4, INPUTS, program, [INPUTS + len(program) - 1, 0])
+    """Every bit of files with coefficients and with reciprocals, flipped."""
+    weighed = [(5, 2, 1)], [(4, 9, 0), (5, -M, 0), (4, 10, 11)], [(1, 0), (5, M - 1, 1), (5, 0, 0), (2, 11, 12)]
+    divided = [(6, 0)], [(4, 9, 0), (6, 10), (6, 11)], [(5, 2, 1), (6, 10), (4, 11, 9)]
+    for scale, program in (*product((4,), weighed), *product((4, 16, 17), divided)):
+        data = reader.pack(scale, INPUTS, program, [INPUTS + len(program) - 1, 0])
         for bit in range(8 * len(data)):
             yield flipped(data, bit)
 
@@ -88,5 +111,5 @@ def padding():
 
 
 def all_cuts():
-    for some in (headers, programs, coefficients, margins_near, flips, padding):
+    for some in (headers, programs, coefficients, margins_near, reciprocals, two_refused, flips, padding):
         yield from some()

@@ -31,7 +31,7 @@ def misfielded(rng, data):
     if what == "version":
         counts[what] = rng.choice((0, 2, 3, 127))
     elif what == "scale":
-        scale = 31
+        scale = rng.choice((31, 31, 31, 17))
     elif what == "m":
         m = rng.choice((15, 16, 17, 31))
     elif what in counts:
@@ -45,10 +45,11 @@ def misfielded(rng, data):
 
 
 def misinstructed(rng, instruction, value):
-    """A code that means nothing, a constant of -2^31, a coefficient at its reach or beyond it, or an operand that is not yet made."""
+    """A code that means nothing, a reciprocal, a constant of -2^31, a coefficient at its reach or beyond it, or an operand that is not made
+    yet."""
     code, *rest = instruction
     if rng.random() < 0.2:
-        return rng.choice((6, 7)), *(number & 1023 for number in rest)
+        return rng.choice((6, 7, 7)), *(number & 1023 for number in rest)
     if code == CODES.index("constant"):
         return code, rng.choice((-(1 << 31), 1 - (1 << 31), M))
     if code == CODES.index("coefficient"):

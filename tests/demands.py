@@ -5,21 +5,27 @@ from functools import partial
 
 from evaluator import contains, exact, formula
 from frames import Case
+from reader import OF_ONE_OPERAND
 
 MOST_DEGREE = 48
+SHARE_TOWARDS_ZERO = 0.2
+
+
+def divides(program):
+    return any(name == "reciprocal" for name, *_ in program)
 
 
 def small_enough(m, program):
-    """Exact numbers grow with the degree; past this one they are slow."""
-    degrees = [1] * m
+    """Exact numbers grow with the degree; past this one they are slow. Reciprocals have denominators that do not go into one another."""
+    degrees, alike = [1] * m, not divides(program)
     for name, first, *second in program:
         if name in ("constant", "coefficient"):
             degrees.append(1)
-        elif name == "negate":
+        elif name in OF_ONE_OPERAND:
             degrees.append(degrees[first])
         else:
             pair = degrees[first], degrees[second[0]]
-            degrees.append(sum(pair) if name == "multiply" else max(pair))
+            degrees.append(max(pair) if alike and name != "multiply" else sum(pair))
         if degrees[-1] > MOST_DEGREE:
             return False
     return True
@@ -32,30 +38,43 @@ def fraction_inside(rng, scale, centre, margin):
     return Fraction(centre * parts + margin * share, parts << scale)
 
 
+def end_towards_zero(scale, centre, margin):
+    return Fraction(centre - margin if centre > 0 else centre + margin, 1 << scale)
+
+
 def exact_values(rng, data, balls):
-    """All values in exact arithmetic for random fractions inside these balls and coefficients, or none where they grow too large."""
+    """All values in exact arithmetic for random fractions inside these balls and coefficients and, in a formula that divides, for their
+    ends on the side of 0; nothing where they grow too large."""
     (scale, m, _, _), program, _ = formula(data)
     if not small_enough(m, program):
-        return None
-    inside = partial(fraction_inside, rng)
-    return exact(scale, program, [inside(scale, *ball) for ball in balls], inside)
+        return
+    for inside in (partial(fraction_inside, rng), *([end_towards_zero] if divides(program) else [])):
+        yield exact(scale, program, [inside(scale, *ball) for ball in balls], inside)
 
 
 def encloses(rng, data, balls, values):
-    """Demand 2: whether each value's ball contains the exact value. None where it was not tried."""
-    exact_ones = exact_values(rng, data, balls)
-    if exact_ones is None:
-        return None
+    """Demand 2: of each trial, whether each value's ball contains the exact value."""
     scale = formula(data)[0][0]
-    return all(contains(scale, *ball, number) for ball, number in zip(values, exact_ones))
+    for exact_ones in exact_values(rng, data, balls):
+        yield all(contains(scale, *ball, number) for ball, number in zip(values, exact_ones))
+
+
+def ball_inside(rng, middle, stray, margin):
+    moved = rng.choice((-stray, stray, rng.randrange(-stray, stray + 1)))
+    return middle + moved, rng.choice((0, margin, rng.randrange(margin + 1)))
+
+
+def ball_towards_zero(middle, stray, margin):
+    return middle - stray if middle > 0 else middle + stray, margin
 
 
 def covered(rng, admission):
-    """A plain and a ball case on random balls that the domain of an admission covers."""
-    balls = []
-    for middle, stray, margin in zip(*admission.readings):
-        moved = rng.choice((-stray, stray, rng.randrange(-stray, stray + 1)))
-        balls.append((middle + moved, rng.choice((0, margin, rng.randrange(margin + 1)))))
+    """A plain and a ball case on balls that the domain of an admission covers: random ones or, at times, those that come nearest to 0."""
+    domain = list(zip(*admission.readings))
+    if rng.random() < SHARE_TOWARDS_ZERO:
+        balls = [ball_towards_zero(*matryoshka) for matryoshka in domain]
+    else:
+        balls = [ball_inside(rng, *matryoshka) for matryoshka in domain]
     centres, margins = [c for c, _ in balls], [s for _, s in balls]
     work, output = admission.lengths[0], admission.lengths[3]
     plain = Case("plain", admission.data, (centres,), (work, output))
@@ -69,8 +88,9 @@ def keeps(rng, data, balls, admitted, plain, ball):
     for (middle, stray, static), (bare,), (centre, margin) in zip(admitted, plain[1], ball[1]):
         if centre != bare or margin > static or abs(centre - middle) > stray:
             return False
-    exact_ones = exact_values(rng, data, balls)
     scale = formula(data)[0][0]
-    return exact_ones is None or all(
-        contains(scale, bare, static, number) for (bare,), (_, _, static), number in zip(plain[1], admitted, exact_ones)
+    return all(
+        contains(scale, bare, static, number)
+        for exact_ones in exact_values(rng, data, balls)
+        for (bare,), (_, _, static), number in zip(plain[1], admitted, exact_ones)
     )

@@ -1,11 +1,12 @@
-"""A second evaluator, written from document 01 and document 02's requests b and c: the three runs in exact integers, and exact arithmetic
-on fractions.
+"""A second evaluator, written from document 01 and document 02's requests b, c and e: the three runs in exact integers and fractions, and
+exact arithmetic on fractions.
 
 A value is a tuple: (x,) in a plain run, (centre, margin) in a ball run, (middle, stray, margin) in an admission.
 """
 
 from fractions import Fraction
 from functools import lru_cache
+from math import ceil, floor
 
 import reader
 
@@ -55,8 +56,36 @@ def matryoshka_product(scale, left, right):
 PRODUCTS = {1: plain_product, 2: ball_product, 3: matryoshka_product}
 
 
+def may_be_zero(value):
+    """Whether a centre's doubt, a stray and a margin together, goes as far as 0; of a plain value, whether it is 0."""
+    return abs(value[0]) <= sum(value[1:])
+
+
+def inverse(T, a):
+    return floor(Fraction(T, a) + Fraction(1, 2))
+
+
+def plain_reciprocal(T, value):
+    return (inverse(T, *value),)
+
+
+def ball_reciprocal(T, value):
+    a, r = value
+    exactly = T % a == 0
+    return inverse(T, a), ceil(Fraction(T * r, (abs(a) - r) * abs(a))) + (0 if exactly else 1)
+
+
+def matryoshka_reciprocal(T, value):
+    A, R, r = value
+    t = abs(A) - R
+    return inverse(T, A), ceil(Fraction(T * R, t * abs(A))), ceil(Fraction(T * r, (t - r) * t)) + 1
+
+
+RECIPROCALS = {1: plain_reciprocal, 2: ball_reciprocal, 3: matryoshka_reciprocal}
+
+
 def step(scale, parts, instruction, values):
-    """What one instruction makes, in reach or not."""
+    """What one instruction makes, in reach or not; no reciprocal of what may be 0."""
     name, first, *second = instruction
     if name == "constant":
         return (first, *(0,) * (parts - 1))
@@ -65,11 +94,22 @@ def step(scale, parts, instruction, values):
     left = values[first]
     if name == "negate":
         return (-left[0], *left[1:])
+    if name == "reciprocal":
+        return RECIPROCALS[parts](1 << 2 * scale, left)
     right = values[second[0]]
     if name == "multiply":
         return PRODUCTS[parts](scale, left, right)
     centre = left[0] + right[0] if name == "add" else left[0] - right[0]
     return (centre, *(r + s for r, s in zip(left[1:], right[1:])))
+
+
+def stepped(scale, parts, instruction, values):
+    """The refusal of one instruction, 0 for none, and what it makes."""
+    name, first, *_ = instruction
+    if name == "reciprocal" and may_be_zero(values[first]):
+        return 17, None
+    made = step(scale, parts, instruction, values)
+    return (11 if reach(made) > M else 0), made
 
 
 def run(parts, data, readings, lengths):
@@ -87,9 +127,9 @@ def run(parts, data, readings, lengths):
     if min(lengths[:parts]) < m + l or min(lengths[parts:]) < n:
         return 10, 0, [], []
     for k, instruction in enumerate(program):
-        made = step(scale, parts, instruction, values)
-        if reach(made) > M:
-            return 11, k, values, []
+        refusal, made = stepped(scale, parts, instruction, values)
+        if refusal:
+            return refusal, k, values, []
         values.append(made)
     return 0, 0, values, [values[name] for name in outputs]
 
@@ -120,6 +160,8 @@ def exact(scale, program, fractions, inside=centre_of):
             made = inside(scale, first, *second)
         elif name == "negate":
             made = -values[first]
+        elif name == "reciprocal":
+            made = 1 / values[first]
         elif name == "add":
             made = values[first] + values[second[0]]
         elif name == "subtract":

@@ -1,7 +1,8 @@
-"""Document 01's figures, marked and unmarked, its examples, and document 02's on coefficients and on the place of a refusal: cases with
-what they must give."""
+"""Document 01's figures, marked and unmarked, its examples, and document 02's on coefficients, reciprocals and the place of a refusal:
+cases with what they must give."""
 
 import reader
+import reciprocals
 from formulas import CODES
 from frames import JOBS, Case
 
@@ -63,6 +64,32 @@ WEIGHED = (
     ((160, 3, 1), ((20, 1, 11), (2, 0, 1))),
 )
 
+# Minutes lost per probe sent at scale 16: value 2 is 1 divided by the probes, value 3 the minutes times it. Of 600 probes it is
+# 2^32/39321600 = 109.23, so (109, 1). 90 minutes, give or take 1, times it are 90*109 = 9810 units, give or take 91*1 + 1*109; the static
+# margin has a half more, rounded up. Two probes give or take two may be none.
+QUOTIENT = reader.pack(16, 2, [(6, 1), (4, 0, 2)], [3, 2])
+PROBES = 600 << 16
+QUOTIENTS = (
+    (((90 << 16,), (PROBES,)), (0, 0), ((9810,), (109,))),
+    (((90 << 16, 1 << 16), (PROBES, 0)), (0, 0), ((9810, 200), (109, 1))),
+    (((90 << 16, 0, 1 << 16), (PROBES, 0, 0)), (0, 0), ((9810, 0, 201), (109, 0, 1))),
+    (((0,), (0,)), (17, 0), ()),
+    (((90 << 16, 1 << 16), (2 << 16, 2 << 16)), (17, 0), ()),
+    (((90 << 16, 0, 1 << 16), (2 << 16, 1 << 16, 1 << 16)), (17, 0), ()),
+    (((M, 0), (2, 0)), (11, 0), ()),
+    (((M, 0), (3, 0)), (11, 1), ()),
+)
+# The reciprocal of a difference, behind other instructions.
+DIFFERENCE = reader.pack(4, 2, [(1, 0), (3, 0, 1), (6, 3), (6, 2)], [4, 5])
+DIFFERENCES = (
+    (((24,), (8,)), (0, 0), ((16,), (-11,))),
+    (((24,), (24,)), (17, 2), ()),
+    (((0,), (24,)), (17, 3), ()),
+    (((24, 3), (8, 13)), (17, 2), ()),
+    # The difference is (16, 15), its reciprocal (16, 240); of (-24, 3) it is (-11, 3).
+    (((24, 3), (8, 12)), (0, 0), ((16, 240), (-11, 3))),
+)
+
 # Bytes and the refusal that they give, 0 for none.
 CHECKS = (
     (EXAMPLE, 0),
@@ -76,7 +103,12 @@ CHECKS = (
     (reader.pack(0, 0, [(5, -M - 1, 0)], [0]), 7),
     # 32 + 66 bits would be over 12 bytes: the margin's last bits are not there, and its centre's test is not yet due.
     (reader.pack(0, 0, [(5, -M - 1, 0)], [0])[:12], 1),
-    *((reader.pack(0, 1, [(code, 0, 0)], [0]), 5) for code in (6, 7)),
+    *((reader.pack(scale, 1, [(7, 0, 0)], [0]), 5) for scale in (0, 16, 17)),
+    *((reader.pack(scale, 1, [(6, 0)], [1]), 0 if scale <= 16 else 16) for scale in (0, 15, 16, 17, 30)),
+    *((reader.pack(scale, 1, [(6, 1)], [1]), 6 if scale <= 16 else 16) for scale in (16, 17)),
+    # 32 + 3 bits are in 5 bytes: the code is there, its operand is not.
+    *((reader.pack(scale, 1, [(6, 0)], [1])[:5], 1 if scale <= 16 else 16) for scale in (16, 17)),
+    (reader.pack(17, 1, [(6, 0)], [1])[:4], 1),
 )
 
 
@@ -96,6 +128,12 @@ def figures():
         yield exactly_enough(EXAMPLE, readings, 4, 1), 0, 0, [output]
     for readings, refusal in REFUSED:
         yield exactly_enough(EXAMPLE, readings, 4, 1), *refusal, []
+    for scale, value, result in reciprocals.ALL:
+        case = exactly_enough(reader.pack(scale, 1, [(6, 0)], [1]), (value,), 2, 1)
+        yield (case, result, 0, []) if isinstance(result, int) else (case, 0, 0, [result])
+    for data, values, some in ((QUOTIENT, 4, QUOTIENTS), (DIFFERENCE, 6, DIFFERENCES)):
+        for readings, refusal, outputs in some:
+            yield exactly_enough(data, readings, values, 2), *refusal, list(outputs)
     for value, outputs in WEIGHED:
         yield exactly_enough(WEIGHT, (value,), 3, 2), 0, 0, list(outputs)
     for data, refusal in CHECKS:

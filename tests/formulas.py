@@ -1,11 +1,12 @@
 """Random formulas made along with a run on their readings, so that they stay in reach, or leave it by a little."""
 
 import reader
-from evaluator import M, reach, step
+from evaluator import M, may_be_zero, reach, stepped
 from numbers_near import reading
 
 CODES = reader.NAMES
-WEIGHTS = (2, 1, 3, 3, 6, 2)
+WEIGHTS = (2, 1, 3, 3, 6, 2, 3)
+WITHOUT_RECIPROCALS = (*WEIGHTS[:-1], 0)
 TRIES = 4
 SIZES = (0, 1, 2, 2, 3, 3, 4, 5, 6, 7, 8, 12, 20)
 INPUTS = (0, 1, 1, 2, 2, 2, 3, 3, 4, 5, 8, 16)
@@ -20,29 +21,41 @@ class Growing:
         self.values = list(readings)
         self.inputs = len(readings)
         self.program = []
+        self.divides = scale <= reader.MOST_SCALE_OF_A_RECIPROCAL
 
     def instruction(self):
         rng, made = self.rng, len(self.values)
-        code = rng.choices(CODES, WEIGHTS)[0] if made else rng.choice(("constant", "coefficient"))
+        weights = WEIGHTS if self.divides else WITHOUT_RECIPROCALS
+        code = rng.choices(CODES, weights)[0] if made else rng.choice(("constant", "coefficient"))
         if code in ("constant", "coefficient"):
             return (code, *reading(rng, self.scale, 1 if code == "constant" else 2))
+        if code == "reciprocal":
+            return code, self.divisor()
         return (code, *(self.operand() for _ in range(1 if code == "negate" else 2)))
+
+    def divisor(self):
+        """An operand, rather one that is away from 0."""
+        some = [self.operand() for _ in range(TRIES)]
+        return next((name for name in some if not may_be_zero(self.values[name])), some[0])
 
     def operand(self):
         """Any value, but often a late one, so that chains grow deep."""
         made = len(self.values)
         return self.rng.randrange(made) if self.rng.getrandbits(1) else made - 1 - self.rng.randrange(min(made, 4))
 
+    def stepped(self, instruction):
+        return stepped(self.scale, self.parts, instruction, self.values)
+
     def add(self, instruction):
-        made = step(self.scale, self.parts, instruction, self.values)
+        refusal, made = self.stepped(instruction)
         self.program.append(instruction)
-        # The run has stopped before a value that is out of reach; what stands there no longer matters.
-        self.values.append(made if reach(made) <= M else (0,) * self.parts)
+        # The run has stopped before a value that is refused; what stands there no longer matters.
+        self.values.append((0,) * self.parts if refusal else made)
 
     def add_in_reach(self):
         for _ in range(TRIES):
             instruction = self.instruction()
-            if reach(step(self.scale, self.parts, instruction, self.values)) <= M:
+            if not self.stepped(instruction)[0]:
                 return self.add(instruction)
         return self.add(("constant", self.rng.randrange(-9, 10)))
 
@@ -61,6 +74,16 @@ class Growing:
             constant *= sign
         self.add(self.constant_of_reach(max(-M, min(M, constant))))
         self.add((code, name, len(self.values) - 1) if code == "subtract" or rng.getrandbits(1) else (code, len(self.values) - 1, name))
+
+    def add_near_zero(self):
+        """A constant, a difference that is just away from 0 or just not, and its reciprocal."""
+        rng, made = self.rng, len(self.values)
+        name = rng.randrange(made)
+        centre, *doubts = self.values[name]
+        away = (sum(doubts) + rng.choice((-1, 0, 1, 1, 2, 3, 4))) * rng.choice((1, -1))
+        self.add(("constant", max(-M, min(M, centre - away))))
+        self.add(("subtract", name, made))
+        self.add(("reciprocal", made + 1))
 
     def constant_of_reach(self, constant):
         """The constant, or a coefficient with its sign and reach; a plain run looks at the centre alone."""
@@ -91,6 +114,8 @@ def random_run(rng, parts, scale, m, l, n):
             growing.add_edge(beyond=0 if edge < 0.1 else rng.randrange(1, 3))
         elif edge < 0.4 and growing.values and rng.random() < 2 / l:
             growing.add(growing.instruction())
+        elif 0.4 < edge < 0.6 and growing.divides and growing.values and l - len(growing.program) >= 3 and rng.random() < 3 / l:
+            growing.add_near_zero()
         else:
             growing.add_in_reach()
     data = growing.packed(random_outputs(rng, n, m + l))

@@ -19,7 +19,7 @@ CHECKER = ["valgrind", "--quiet", "--error-exitcode=9", "--leak-check=full"]
 def random_bytes(rng):
     data = bytes(rng.randrange(256) for _ in range(rng.choice((0, 1, 3, 4, 5, 11, 40, 300))))
     if rng.randrange(2):
-        data = bytes((2, rng.randrange(256), rng.randrange(4), rng.randrange(256))) + data
+        data = bytes((rng.choice((2, 3)), rng.randrange(256), rng.randrange(4), rng.randrange(256))) + data
     return data
 
 
@@ -35,7 +35,7 @@ def random_case(rng):
 
 
 def random_number(rng):
-    return rng.randrange(6) if rng.random() < 0.9 else packing_cases.any_number(rng)
+    return rng.randrange(7) if rng.random() < 0.9 else packing_cases.any_number(rng)
 
 
 def random_packing(rng):

@@ -3,12 +3,14 @@ what is tested later."""
 
 from itertools import combinations
 
-from evaluator import M, formula, misread
+import met_dividing
+from evaluator import M, formula, misread, run
 
 PARTS = {"plain": ("reading",), "ball": ("centre", "margin"), "records": ("centre", "margin"), "admit": ("middle", "stray", "margin")}
 LOWEST = -(1 << 63)
 INPUTS, INSTRUCTIONS = range(16), range(512)
-BYTES, READINGS, ROOM, STEP = range(1, 9), (13, 14, 15), 10, 11
+BYTES, READINGS, ROOM, STEPS = (*range(1, 9), 16), (13, 14, 15), 10, (11, 17)
+ENOUGH = 528
 
 
 def met(case, want):
@@ -19,8 +21,19 @@ def met(case, want):
         yield from (f"{job}: {number} before {later}" for later in behind_bytes(case))
     elif number in READINGS:
         yield from (f"{job}: {number} {words}" for words in of_readings(case, want))
-    elif number == STEP:
+    elif number == ROOM:
+        yield f"{job}: {number} before {behind_room(case)}"
+    elif number in STEPS:
         yield f"{job}: {number} at {want.place}"
+    yield from (f"{job}: {words}" for words in of_dividing(case, want))
+
+
+def of_dividing(case, want):
+    if want.refusal in BYTES:
+        return met_dividing.of_bytes(case.data, want.refusal)
+    if want.refusal in STEPS:
+        return met_dividing.of_step(PARTS[case.job], case, want)
+    return () if want.refusal else met_dividing.of_accepted(PARTS[case.job], case, want)
 
 
 def misread_ones(values):
@@ -35,6 +48,12 @@ def behind_bytes(case):
     yield from misread_ones(zip(*case.readings))
     if not any(case.lengths):
         yield ROOM
+
+
+def behind_room(case):
+    """The refusal with room enough, 0 for none."""
+    parts = len(PARTS[case.job])
+    return run(parts, case.data, case.readings, (ENOUGH,) * (2 * parts))[0]
 
 
 def of_readings(case, want):
@@ -73,8 +92,10 @@ def of_job(job, names):
     """What must be met in this run, without its name."""
     doubts = names[1:]
     bad = (14, 15) if doubts else (15,)
-    yield from map(str, (0, *BYTES, ROOM, STEP, 13, *bad))
-    yield from (f"{STEP} at {k}" for k in INSTRUCTIONS)
+    yield from map(str, (0, *BYTES, ROOM, *STEPS, 13, *bad))
+    yield from (f"{number} at {k}" for number in STEPS for k in INSTRUCTIONS)
+    yield from (f"{ROOM} before {number}" for number in STEPS)
+    yield from met_dividing.required(names)
     for i in INPUTS:
         yield from (f"14 at {i} by {name}" for name in doubts)
         yield from (f"15 at {i} by {name}" for name in (*names, *(["the sum"] if doubts else [])))

@@ -1,13 +1,13 @@
-/* A first program with margins.h: one formula checked, run on readings, admitted for a whole domain, packed and read back.
- * At scale 4 a unit is 1/16. The formula is x*y + x. */
+/* A first program with margins.h: one formula checked, run on readings, admitted for a whole domain, packed and read back; then a weight that
+ * was rounded, and a quotient. At scale 4 a unit is 1/16. The formula is x*y + x. */
 #include <inttypes.h>
 #include <stdio.h>
 #include <string.h>
 
 #include "margins.h"
 
-#if MARGINS_INTERFACE != 3
-#error "this program is written for interface 3"
+#if MARGINS_INTERFACE != 4
+#error "this program is written for interface 4"
 #endif
 
 static const uint8_t formula[] = {0x02, 0x41, 0x00, 0x41, 0x80, 0x00, 0x02, 0x80, 0x20, 0x00, 0x03};
@@ -19,7 +19,7 @@ static uint64_t work_margins[MARGINS_MOST_VALUES], output_margins[MARGINS_MOST_O
 static void tell_refusal(const char *job, margins_reply reply)
 {
     printf("%s: refused %" PRIu32 ", %s", job, reply.refusal, margins_refusal_text(reply.refusal));
-    if (reply.refusal == MARGINS_REFUSED_OUT_OF_REACH)
+    if (reply.refusal == MARGINS_REFUSED_OUT_OF_REACH || reply.refusal == MARGINS_REFUSED_MAY_BE_ZERO)
         printf(", at instruction %" PRIu64, reply.place);
     if (reply.refusal == MARGINS_REFUSED_NEGATIVE_MARGIN || reply.refusal == MARGINS_REFUSED_READING_TOO_LARGE)
         printf(", at reading %" PRIu64, reply.place);
@@ -125,6 +125,25 @@ static void weigh(int64_t code, int64_t margin, margins_reading x)
         printf("weigh: %" PRId64 " give or take %" PRIu64 "\n", output[0], output_margins[0]);
 }
 
+/* x divided by y is x times 1/y: value 2 is the reciprocal of y, value 3 is x times it. A reciprocal is for scales 0 to 16. */
+static void divide(int64_t scale, margins_reading x, margins_reading y)
+{
+    static const int64_t codes[] = {MARGINS_CODE_RECIPROCAL, MARGINS_CODE_MULTIPLY}, firsts[] = {1, 0}, seconds[] = {0, 2}, outputs[] = {3};
+    const margins_reading readings[] = {x, y};
+    uint8_t bytes[MARGINS_MOST_BYTES];
+    margins_packed made = margins_pack(scale, 2, codes, 2, firsts, 2, seconds, 2, outputs, 1, bytes, sizeof bytes);
+    if (made.refusal) {
+        printf("divide: refused %" PRIu32 ", %s\n", made.refusal, margins_refusal_text(made.refusal));
+        return;
+    }
+    margins_reply reply = margins_ball_records(bytes, made.bytes, readings, 2, work, MARGINS_MOST_VALUES, work_margins, MARGINS_MOST_VALUES,
+                                               output, MARGINS_MOST_OUTPUTS, output_margins, MARGINS_MOST_OUTPUTS);
+    if (reply.refusal)
+        tell_refusal("divide", reply);
+    else
+        printf("divide: %" PRId64 " give or take %" PRIu64 "\n", output[0], output_margins[0]);
+}
+
 static void unpack(size_t length)
 {
     int64_t codes[MARGINS_MOST_INSTRUCTIONS], firsts[MARGINS_MOST_INSTRUCTIONS], seconds[MARGINS_MOST_INSTRUCTIONS];
@@ -163,9 +182,13 @@ int main(void)
     weigh(MARGINS_CODE_CONSTANT, 0, (margins_reading){160, 0});
     weigh(MARGINS_CODE_COEFFICIENT, 1, (margins_reading){160, 0});
     weigh(MARGINS_CODE_COEFFICIENT, -1, (margins_reading){160, 0});
+    divide(16, (margins_reading){5898240, 65536}, (margins_reading){39321600, 0});
+    divide(16, (margins_reading){5898240, 65536}, (margins_reading){131072, 131072});
+    divide(16, (margins_reading){5898240, 65536}, (margins_reading){2, 0});
+    divide(17, (margins_reading){5898240, 65536}, (margins_reading){39321600, 0});
     unpack(MARGINS_MOST_INSTRUCTIONS);
     unpack(1);
-    for (uint32_t refusal = 0; refusal <= MARGINS_REFUSED_READING_TOO_LARGE + 1; refusal++)
+    for (uint32_t refusal = 0; refusal <= MARGINS_REFUSED_MAY_BE_ZERO + 1; refusal++)
         printf("%" PRIu32 ": %s\n", refusal, margins_refusal_text(refusal));
     return 0;
 }

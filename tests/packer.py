@@ -1,4 +1,5 @@
-"""A second packer, and a second way back into lists, written from document 02's requests a and b: the file is one string of '0' and '1'.
+"""A second packer, and a second way back into lists, written from document 02's requests a, b and e: the file is one string of '0' and
+'1'.
 
 A formula as lists is (scale, inputs, codes, firsts, seconds, outputs), any of its numbers permitted or not.
 """
@@ -6,9 +7,11 @@ A formula as lists is (scale, inputs, codes, firsts, seconds, outputs), any of i
 from functools import lru_cache
 
 from evaluator import formula
-from reader import LARGEST, NAMES, Refused
+from reader import LARGEST, MOST_SCALE_OF_A_RECIPROCAL, NAMES, Refused
 
-CONSTANT, NEGATE, COEFFICIENT = map(NAMES.index, ("constant", "negate", "coefficient"))
+CONSTANT, NEGATE, COEFFICIENT, RECIPROCAL = map(NAMES.index, ("constant", "negate", "coefficient", "reciprocal"))
+# Those that have no second field.
+OF_ONE_FIELD = (CONSTANT, NEGATE, RECIPROCAL)
 
 
 def bits(number, width, least, most, refusal):
@@ -32,14 +35,16 @@ def coefficient(centre, margin):
     return bits(centre, 32, -LARGEST, LARGEST, 7) + text
 
 
-def instruction(code, first, second, value):
+def instruction(code, first, second, value, scale):
     text = bits(code, 3, 0, len(NAMES) - 1, 5)
+    if code == RECIPROCAL and scale > MOST_SCALE_OF_A_RECIPROCAL:
+        raise Refused(16)
     if code == CONSTANT:
         return text + bits(first, 32, -LARGEST, LARGEST, 7)
     if code == COEFFICIENT:
         return text + coefficient(first, second)
     text += bits(first, 10, 0, value - 1, 6)
-    return text if code == NEGATE else text + bits(second, 10, 0, value - 1, 6)
+    return text if code in OF_ONE_FIELD else text + bits(second, 10, 0, value - 1, 6)
 
 
 @lru_cache(maxsize=16)
@@ -47,7 +52,7 @@ def packed(scale, inputs, codes, firsts, seconds, outputs):
     """The bytes, or the first refusal in the order in which the fields are written."""
     text = [header(scale, inputs, (len(codes), len(firsts), len(seconds)), len(outputs))]
     for k, fields in enumerate(zip(codes, firsts, seconds)):
-        text.append(instruction(*fields, inputs + k))
+        text.append(instruction(*fields, inputs + k, scale))
     text += [bits(name, 10, 0, inputs + len(codes) - 1, 6) for name in outputs]
     whole = "".join(text)
     whole += "0" * (-len(whole) % 8)

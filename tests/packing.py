@@ -10,24 +10,42 @@ import packer
 import packing_cases
 import packing_frames as frames
 import reader
-from checks import longest, longest_exact
-from figures import EXAMPLE, WEIGHT
+from checks import longest, longest_divided, longest_exact
+from figures import EXAMPLE, QUOTIENT, WEIGHT
+from met_dividing import at_scale_zero, of_bytes
 
 CHUNK = 4000
 DIFFERENCES_SHOWN = 5
-REFUSALS = {frames.Pack: (0, 3, 4, 5, 6, 7, 10), frames.Unpack: (0, 1, 2, 3, 4, 5, 6, 7, 8, 10)}
-# What documents say of lists: document 01's example, the README's formula, a coefficient, the longest ones, an output that can name
-# nothing, and coefficients out of reach or with a margin below 0.
+REFUSALS = {frames.Pack: (0, 3, 4, 5, 6, 7, 10, 16), frames.Unpack: (0, 1, 2, 3, 4, 5, 6, 7, 8, 10, 16)}
+# At a scale that reciprocals are not for: what comes behind a 16 (0 for nothing), and what before it.
+REQUIRED = {
+    *(f"pack: 16 before {number}" for number in (0, 5, 6, 7, 10)),
+    *(f"pack: {number} before 16" for number in (3, 4, 5, 6, 7)),
+    *(f"unpack: 16 before {number}" for number in (0, 1, 5, 6, 7, 8, 10)),
+    *(f"unpack: {number} before 16" for number in range(1, 8)),
+    *(f"unpack: 16 before its operand's {words}" for words in ("1", "1, right behind the code", "6")),
+}
+# What documents say of lists: document 01's example, the README's formula, a coefficient, a reciprocal, the longest ones, an output that
+# can name nothing, coefficients out of reach or with a margin below 0, and reciprocals at scales that they are for and that they are not.
 FIGURES = (
     ((4, 2, (4, 2), (0, 2), (1, 0), (3,)), (0, EXAMPLE)),
     ((4, 3, (0, 3, 4, 2), (4, 1, 0, 5), (0, 3, 4, 2), (6,)), (0, bytes.fromhex("02418081000000008c0100e000022014020180"))),
     ((4, 1, (5, 4), (2, 0), (1, 1), (2, 1)), (0, WEIGHT)),
+    ((16, 2, (6, 4), (1, 0), (-5, 2), (3, 2)), (0, QUOTIENT)),
     (packer.lists_of(longest()), (0, longest())),
     (packer.lists_of(longest_exact()), (0, longest_exact())),
+    (packer.lists_of(longest_divided()), (0, longest_divided())),
     ((0, 0, (), (), (), (0,)), (6, b"")),
     ((0, 0, (5,), (packer.LARGEST,), (1,), (0,)), (7, b"")),
     ((0, 0, (5,), (5,), (-1,), (0,)), (7, b"")),
     ((0, 0, (5,), (-(1 << 31),), (0,), (0,)), (7, b"")),
+    # Version 1 in 7 bits, scale 16, one input, one instruction, one output: 03008021; then 110, operand 0, output 1, one bit of padding.
+    ((16, 1, (6,), (0,), (0,), (1,)), (0, bytes.fromhex("03008021c00002"))),
+    ((16, 1, (6,), (1,), (0,), (1,)), (6, b"")),
+    ((17, 1, (6,), (0,), (0,), (1,)), (16, b"")),
+    ((17, 1, (6,), (1,), (0,), (1,)), (16, b"")),
+    ((17, 1, (7,), (0,), (0,), (1,)), (5, b"")),
+    ((31, 1, (6,), (0,), (0,), (1,)), (3, b"")),
 )
 
 
@@ -36,6 +54,7 @@ class Comparison:
         self.command = command
         self.passed = self.failed = self.trips = 0
         self.refusals = {kind: Counter() for kind in REFUSALS}
+        self.met = set()
 
     def judge(self, good, case, *words):
         self.passed += bool(good)
@@ -50,7 +69,7 @@ class Comparison:
             self.judge(packer.pack(lists, room) == want, frames.Pack(lists, room), "  the second packer differs from the documents")
         for lists in packing_cases.round_trips()[0]:
             scale, inputs, *rows, outputs = lists
-            program = [(code, *fields[: 1 if code < 2 else 2]) for code, *fields in zip(*rows)]
+            program = [(code, *fields[: 1 if code in packer.OF_ONE_FIELD else 2]) for code, *fields in zip(*rows)]
             same = packer.packed(*lists) == reader.pack(scale, inputs, program, outputs)
             self.judge(same, frames.Pack(lists, 0), "  the second packer and the other tests' one differ")
 
@@ -68,6 +87,7 @@ class Comparison:
         words = () if same else ("  second packer:", frames.told(case, want.reply), "  driver:", frames.told(case, reply))
         self.judge(same, case, *words)
         self.refusals[type(case)][want.refusal] += 1
+        self.met |= met(case, want.refusal)
         return reply if same else None
 
     def round_trips(self):
@@ -98,13 +118,31 @@ class Comparison:
             self.failed += bool(missing)
             if missing:
                 print(f"{kind.__name__.lower()}: refusals that no case meets: {missing}")
+        missing = sorted(REQUIRED - self.met)
+        self.passed += not missing
+        self.failed += bool(missing)
+        if missing:
+            print("orders that no case meets: " + "; ".join(missing))
         print(f"cases {sum(sum(counts.values()) for counts in self.refusals.values())}, round trips {self.trips}")
+
+
+def met(case, refusal):
+    """What a 16 comes before: what the same has at a scale that reciprocals are for; and what comes before a 16."""
+    if isinstance(case, frames.Unpack):
+        words = of_bytes(case.data, refusal) if refusal in REFUSALS[frames.Unpack][1:] else ()
+        later = [packer.unpack(at_scale_zero(case.data), case.lengths)[0]] if refusal == 16 else []
+        return {f"unpack: {some}" for some in (*words, *(f"16 before {number}" for number in later))}
+    scale, _, codes, *_ = case.lists
+    if refusal == 16:
+        return {f"pack: 16 before {packer.pack((0, *case.lists[1:]), case.room)[0]}"}
+    return {f"pack: {refusal} before 16"} if scale > reader.MOST_SCALE_OF_A_RECIPROCAL and packer.RECIPROCAL in codes else set()
 
 
 def without_missing_fields(lists):
     """A second field that the code does not have is read back as 0."""
     scale, inputs, codes, firsts, seconds, outputs = lists
-    return scale, inputs, codes, firsts, tuple(second if code > 1 else 0 for code, second in zip(codes, seconds)), outputs
+    seconds = tuple(0 if code in packer.OF_ONE_FIELD else second for code, second in zip(codes, seconds))
+    return scale, inputs, codes, firsts, seconds, outputs
 
 
 def shown(case):

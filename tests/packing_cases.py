@@ -4,14 +4,14 @@ at once, random lists. Reading back: files whole, cut and damaged, into lists of
 import random
 from itertools import islice, product
 
-from checks import all_checks, longest, longest_exact
-from cuts import INPUTS, PLACES_IN_A_BYTE, all_cuts
+from checks import all_checks, longest, longest_divided, longest_exact
+from cuts import INPUTS, PLACES_IN_A_BYTE, SCALES_DIVIDED, all_cuts
 from damage import damaged, misfielded, roomy, short
 from evaluator import formula
 from formulas import large_run, small_run
-from packer import COEFFICIENT, CONSTANT, LARGEST, NAMES, NEGATE, lists_of, packed
+from packer import COEFFICIENT, CONSTANT, LARGEST, NAMES, NEGATE, OF_ONE_FIELD, RECIPROCAL, lists_of, packed
 from packing_frames import Pack, Unpack
-from reader import Refused
+from reader import MOST_SCALE_OF_A_RECIPROCAL, Refused
 
 NUMBERS = (
     *(-(1 << 63), 1 - (1 << 63), -(1 << 32) - 1, -(1 << 32), 5 - (1 << 32), -(1 << 31) - 1, -(1 << 31), 1 - (1 << 31), -1024, -2, -1, 0, 1),
@@ -32,7 +32,10 @@ LENGTHS = (0, 1, 511, 512, 513, 1023, 1024, 1025, 1536)
 LONG = 65537
 # Where the numbers stand in a formula as lists.
 SCALE, HAS_INPUTS, CODES, FIRSTS, SECONDS, OUTPUTS = range(6)
-WRONGS = ("scale", "inputs", "lists", "outputs", "code", "first", "second", "constant", "coefficient", "output", "room")
+WRONGS = (
+    *("scale", "inputs", "lists", "outputs", "code", "first", "second", "constant", "coefficient", "reciprocal", "over 16", "output"),
+    "room",
+)
 # More than the longest formula has.
 ENOUGH = 4300
 PAIRS_EACH = 100
@@ -94,12 +97,33 @@ def coefficients():
             yield lists(4, INPUTS, [(4, 9, 0)] * before + [(COEFFICIENT, centre, margin)], [INPUTS + before] * outputs)
 
 
+def reciprocals():
+    """At each scale at every place within a byte; each operand at scales around the largest; as the last instruction, with every number of
+    outputs. The second field is any number."""
+    for before, scale in product(range(PLACES_IN_A_BYTE), (*range(-1, 33), *NUMBERS)):
+        yield lists(scale, INPUTS, [(4, 9, 0)] * before + [(RECIPROCAL, 9, -1), (1, 0, 0)], [0])
+    for before, scale in product(range(PLACES_IN_A_BYTE), SCALES_DIVIDED):
+        value = INPUTS + before
+        for number in (*NUMBERS, value - 1, value, value + 1):
+            yield lists(scale, INPUTS, [(4, 9, 0)] * before + [(RECIPROCAL, number, number), (7, 0, 0)][: 1 + scale % 2], [0])
+    for before, scale, outputs in product(range(PLACES_IN_A_BYTE), (16, 17), range(1, 17)):
+        yield lists(scale, INPUTS, [(4, 9, 0)] * before + [(RECIPROCAL, INPUTS + before - 1, 1 << 40)], [INPUTS + before] * outputs)
+
+
+def in_order():
+    """Two rows of which one or both are refused, at scales that reciprocals are for and are not for: the first one's refusal."""
+    rows = (RECIPROCAL, 0, 0), (RECIPROCAL, -1, 0), (7, 0, 0), (-1, 0, 0), (4, 0, 10), (CONSTANT, 1 << 31, 0), (COEFFICIENT, 5, -1)
+    for scale, pair in product((16, 17, 30), product(rows, repeat=2)):
+        yield lists(scale, INPUTS, pair, [0])
+        yield lists(scale, INPUTS, [(1, 0, 0), *pair], [1000])
+
+
 def rooms():
     """Every length of the buffer, with every number of bits in the last byte."""
-    rows = (1, 0, 0), (COEFFICIENT, -LARGEST, 0)
+    rows = (1, 0, 0), (COEFFICIENT, -LARGEST, 0), (RECIPROCAL, 1, 7)
     small = [lists(4, 2, [row] * count, [1] * outputs) for row, count, outputs in product(rows, range(5), (1, 2))]
     large = lists(30, 16, [(0, LARGEST, 7), (4, 15, 16), (5, -1, LARGEST - 1)], range(16))
-    for given in (*small, large, lists_of(longest()), lists_of(longest_exact())):
+    for given in (*small, large, *map(lists_of, (longest(), longest_exact(), longest_divided()))):
         yield from (Pack(given, room) for room in range(len(packed(*given)) + 10))
 
 
@@ -110,7 +134,7 @@ def any_number(rng):
 def random_fields(rng, code, value):
     """Both fields of an instruction that makes this value."""
     if code not in (CONSTANT, COEFFICIENT):
-        return rng.randrange(value), any_number(rng) if code == NEGATE else rng.randrange(value)
+        return rng.randrange(value), any_number(rng) if code in OF_ONE_FIELD else rng.randrange(value)
     number = rng.choice((LARGEST, -LARGEST, 0, -1, rng.randrange(-LARGEST, LARGEST + 1)))
     room = LARGEST - abs(number)
     return number, any_number(rng) if code == CONSTANT else rng.choice((0, room, rng.randrange(room + 1)))
@@ -118,13 +142,14 @@ def random_fields(rng, code, value):
 
 def random_lists(rng, instructions):
     """Lists that are accepted; a field that the code does not have is any number."""
-    inputs = rng.choice((0, 1, 2, 5, 15, 16))
+    inputs, scale = rng.choice((0, 1, 2, 5, 15, 16)), rng.randrange(31)
+    codes = range(len(NAMES) if scale <= MOST_SCALE_OF_A_RECIPROCAL else RECIPROCAL)
     program = []
     for value in range(inputs, inputs + instructions):
-        code = rng.randrange(len(NAMES)) if value else rng.choice((CONSTANT, COEFFICIENT))
+        code = rng.choice(codes) if value else rng.choice((CONSTANT, COEFFICIENT))
         program.append((code, *random_fields(rng, code, value)))
     outputs = [rng.randrange(inputs + instructions) for _ in range(rng.choice((1, 1, 2, 3, 15, 16)))]
-    return lists(rng.randrange(31), inputs, program, outputs)
+    return lists(scale, inputs, program, outputs)
 
 
 def some_lists(rng, i):
@@ -147,7 +172,10 @@ def misfilled(rng, given, what):
         return given
     index = rng.randrange(places)
     if what == "code":
-        return put(given, CODES, rng.choice((-1, 6, 7, 8, any_number(rng))), index)
+        return put(given, CODES, rng.choice((-1, 7, 7, 8, any_number(rng))), index)
+    if what in ("reciprocal", "over 16"):
+        given = put(given, SCALE, rng.choice((17, 30))) if what == "over 16" else given
+        return put(given, CODES, RECIPROCAL, index)
     if what == "constant":
         return put(put(given, CODES, CONSTANT, index), FIRSTS, rng.choice((-LARGEST - 1, LARGEST + 1, any_number(rng))), index)
     if what == "coefficient":
@@ -194,8 +222,7 @@ def random_packs(rng):
 
 def whole_files(rng, count):
     """Formulas that are accepted."""
-    yield longest()
-    yield longest_exact()
+    yield from (longest(), longest_exact(), longest_divided())
     for i in range(count):
         yield (small_run if i % LARGE_EVERY else large_run)(rng, 1)[0]
 
@@ -212,7 +239,8 @@ def needed(data):
 def lengths_near():
     """Every length of each lent list around what a formula needs, alone and together."""
     small = packed(*lists(4, 2, [(4, 0, 1), (0, -5, 0), (1, 2, 0), (2, 3, 4), (3, 5, 0), (5, -7, 3)], [7, 0, 2]))
-    for data in (small, longest(), longest_exact()):
+    divided = packed(*lists(16, 1, [(6, 0, 0), (4, 0, 1), (6, 2, 0)], [3, 1]))
+    for data in (small, divided, longest(), longest_exact(), longest_divided()):
         for number, length in product(range(4), (*range(20), 511, 512, 513, 1024)):
             yield Unpack(data, tuple(length if i == number else enough for i, enough in enumerate(needed(data))))
         for more in product((-1, 0, 1), repeat=4):
@@ -229,7 +257,7 @@ def read_files(rng):
 
 
 def all_packs(rng):
-    for given in (*headers(), *list_lengths(), *fields(), *coefficients()):
+    for given in (*headers(), *list_lengths(), *fields(), *coefficients(), *reciprocals(), *in_order()):
         yield Pack(given, rng.choice((0, 40, ENOUGH)))
         yield Pack(given, ENOUGH)
     yield from rooms()

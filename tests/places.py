@@ -1,8 +1,9 @@
 """Cases of the refusals that have a place, and of 13, which comes before them: a bad reading at each place, by each of its parts, alone
-and beside others; lists of wrong lengths; what is refused before and behind them; and each instruction out of reach."""
+and beside others; lists of wrong lengths; what is refused before and behind them; and each instruction out of reach, and each a reciprocal
+of what may be 0."""
 
 import random
-from itertools import combinations, product
+from itertools import combinations, permutations, product
 
 import reader
 from damage import needed, resized
@@ -38,12 +39,21 @@ NEIGHBOURS = ((0, 1), (0, 15), (7, 8), (14, 15))
 SEVERAL = 200
 # More than a count of 16 bits holds.
 LONG = 1 << 16
-# One for each refusal of the bytes, 1 to 8, with two inputs where they can be read.
+# One for each refusal of the bytes, 1 to 8 and 16, with two inputs where they can be read.
 REFUSED_BYTES = (
     *(reader.pack(4, 2, [(4, 0, 1)], [2])[:-1], reader.pack(4, 2, [], [0], version=2), reader.pack(31, 2, [], [0])),
     *(reader.pack(4, 2, [], [], n=0), reader.pack(4, 2, [(7, 0, 1)], [2]), reader.pack(4, 2, [(4, 0, 1)], [3])),
-    *(reader.pack(4, 2, [(0, -(1 << 31))], [2]), reader.pack(4, 2, [(4, 0, 1)], [2]) + b"\0"),
+    *(reader.pack(4, 2, [(0, -(1 << 31))], [2]), reader.pack(4, 2, [(4, 0, 1)], [2]) + b"\0", reader.pack(17, 2, [(6, 0)], [2])),
 )
+# What may be 0 by each of its doubts: 0 itself, just reached, and passed. At scale 16 the reciprocals of some centres are out of reach too.
+MAY_BE_ZERO = {
+    1: ((0,),),
+    2: ((0, 0), (1, 1), (-2, 2), (0, M), (3, 5), (-3, 5), (-7, 7), ((1 << 30) - 1, 1 << 30)),
+    3: (
+        *((0, 0, 0), (1, 1, 0), (-1, 0, 1), (2, 1, 1), (-2, 1, 2), (0, 5, 0), (0, 0, 5), (0, 2, 2), (9, 4, 5), (3, 5, 0), (-3, 5, 0)),
+        *((3, 0, 5), (-3, 0, 5), (-(1 << 29), 1 << 28, 1 << 28)),
+    ),
+}
 # Instructions that stay in reach, whatever value 0 is.
 IN_REACH = (((1, 0), (0, -5), (5, 7, 3), (0, M), (5, -1, M - 1)) * MOST_INSTRUCTIONS)[:MOST_INSTRUCTIONS]
 
@@ -139,17 +149,31 @@ def refused_readings(job):
 
 
 def in_order():
-    """Wrong readings with damaged bytes, which come before them; with too little room and with a step out of reach, which come behind."""
+    """Wrong readings with damaged bytes, which come before them; with too little room and with a refused step, which come behind."""
     out_of_reach = reader.pack(4, 2, [(0, M), (2, 2, 2), (1, 3), (1, 4)], [5])
+    by_zero = reader.pack(4, 2, [(0, 0), (6, 2), (1, 3), (1, 4)], [5])
     for job in RUNS:
         for case in refused_readings(job):
             no_room = (0,) * len(case.lengths)
             for data, lengths in product(REFUSED_BYTES, (case.lengths, no_room)):
                 yield case._replace(data=data, lengths=lengths)
-            yield case._replace(data=out_of_reach)
+            yield from (case._replace(data=data) for data in (out_of_reach, by_zero))
             yield case._replace(lengths=no_room)
-            for short in range(len(case.lengths)):
-                yield case._replace(lengths=tuple(length - (i == short) for i, length in enumerate(case.lengths)))
+            yield from one_too_short(case)
+
+
+def one_too_short(case):
+    """Each lent list short by a place."""
+    for short in range(len(case.lengths)):
+        yield case._replace(lengths=tuple(length - (i == short) for i, length in enumerate(case.lengths)))
+
+
+def first_of_two():
+    """A sum out of reach and a reciprocal of what may be 0, one behind the other; with too little room, which comes before both."""
+    for job, rows in product(RUNS, permutations(((2, 3, 3), (6, 2)))):
+        case = case_of(job, reader.pack(16, 2, [(0, 0), (0, M), *rows], [2]), good(PARTS[job], 2))
+        yield case
+        yield from one_too_short(case)
 
 
 def steps():
@@ -164,8 +188,22 @@ def steps():
             yield case_of(job, data, [far, *good(parts, m - 1)])
 
 
+def divisions():
+    """Each instruction of the longest lists a reciprocal of what may be 0, at each scale; others before it that are accepted, and behind it
+    sums out of reach and more of its kind."""
+    for k in range(MOST_INSTRUCTIONS):
+        m = 2 + k % (MOST_INPUTS - 1)
+        before = [(6, m + 1) if row == (0, M) else row for row in IN_REACH[:k]]
+        behind = [row for step in IN_REACH for row in ((6, 0), (2, 1, 1), step)]
+        data = reader.pack(k % 17, m, [*before, *behind[: MOST_INSTRUCTIONS - k]], [m + k, 0])
+        for job in RUNS:
+            parts = PARTS[job]
+            near = MAY_BE_ZERO[parts]
+            yield case_of(job, data, [near[k % len(near)], (M, 0, 0)[:parts], *good(parts, m - 2)])
+
+
 def all_places():
     rng = random.Random(4)
-    for some in (alone, each_with_each, first_and_last, counts, in_order, steps):
+    for some in (alone, each_with_each, first_and_last, counts, in_order, first_of_two, steps, divisions):
         yield from some()
     yield from beside_others(rng)

@@ -62,9 +62,11 @@ def met(data, wanted):
 
 def required():
     """Each reply, but for 10, since the program's own lists are long enough; and in each job those on its readings."""
-    found = {f"refused {number} 0" for number in (*range(1, 9), 12)} | {f"refused 11 {k}" for k in range(MOST_INSTRUCTIONS)}
+    found = {f"refused {number} 0" for number in (*range(1, 9), 12)}
+    found |= {f"refused {number} {k}" for number in (11, 17) for k in range(MOST_INSTRUCTIONS)}
     for word in map(bytes.decode, WORDS):
         found |= {f"{word}: {reply}" for reply in ("ok", "refused 13 0", *(f"refused 15 {i}" for i in range(MOST_INPUTS)))}
+        found |= {f"{word}: {reply}" for reply in ("refused 16 0", "refused 17 0")}
         if word != "plain":
             found |= {f"{word}: refused 14 {i}" for i in range(MOST_INPUTS)}
     return found

@@ -4,13 +4,15 @@ import random
 from itertools import product
 
 import reader
-from checks import longest, longest_exact
+import reciprocals
+from checks import longest, longest_divided, longest_exact
 from cuts import COEFFICIENTS, HEADERS, INPUTS, REFUSED
 from damage import wrong_readings
 from evaluator import M
-from figures import EXAMPLE, EXAMPLES, WEIGHED, WEIGHT
+from figures import DIFFERENCE, DIFFERENCES, EXAMPLE, EXAMPLES, QUOTIENT, QUOTIENTS, WEIGHED, WEIGHT
 from formulas import large_run, small_run
-from places import IN_REACH, MOST_INPUTS, MOST_INSTRUCTIONS, good
+from met_dividing import OTHER_SCALES
+from places import IN_REACH, MAY_BE_ZERO, MOST_INPUTS, MOST_INSTRUCTIONS, good
 from program_malformed import READING, WORDS, malformed, text
 
 RANDOM_ACCEPTED = 40
@@ -44,7 +46,7 @@ def random_runs(rng):
 
 
 def refused_formulas():
-    """Each refusal from 1 to 8, with readings that would do, and with readings that would not."""
+    """Each refusal from 1 to 8, with readings that would do, and with readings that would not; 16 is among the reciprocals."""
     for fields in (*HEADERS[::12], {"scale": 31}):
         kept = {"scale": 4, "m": 1, "program": [(4, 0, 0)], "outputs": [1]} | fields
         yield "header", text(reader.pack(**kept), b"plain", [b"24"])
@@ -78,6 +80,28 @@ def coefficients():
             yield "a cut formula with a coefficient", text(data[:size], b"ball", [b"160 0"])
 
 
+def of_values(data, values):
+    return of_lists(data, tuple(zip(*values)))
+
+
+def divided():
+    """Reciprocals and quotients in each job, those at a limit among them; scales that reciprocals are not for, with readings that would do
+    and without; files cut before, inside and behind one, at a scale that it is for and at one that it is not."""
+    for scale, value, _ in reciprocals.ALL:
+        yield f"a reciprocal at scale {scale}", of_values(reader.pack(scale, 1, [(6, 0)], [1]), [value])
+    for data, some in ((QUOTIENT, QUOTIENTS), (DIFFERENCE, DIFFERENCES)):
+        for readings, *_ in some:
+            yield "a quotient", of_values(data, readings)
+    for i, scale in enumerate(OTHER_SCALES):
+        for word in WORDS[i % 3 :][:1] if i else WORDS:
+            yield f"a reciprocal at scale {scale}", text(reader.pack(scale, 1, [(6, 0)], [1]), word, [READING[word]])
+            yield f"a reciprocal at scale {scale}, no readings", text(reader.pack(scale, 1, [(6, 1)], [1]), word, [])
+    for scale in (16, 17):
+        data = reader.pack(scale, 2, [(1, 1), (6, 2), (4, 0, 3)], [4])
+        for size in range(len(data) + 1):
+            yield "a cut formula with a reciprocal", text(data[:size], b"ball", [b"5898240 65536", b"39321600 0"])
+
+
 def counts():
     """A wrong number of reading lines, up to what fits; and numbers of them at the limits."""
     for word in WORDS:
@@ -87,6 +111,7 @@ def counts():
             yield f"{count} bad readings for two inputs", text(EXAMPLE, word, [BAD[word]] * count)
         yield "longest formula", text(longest(), word, [READING[word]] * 16)
         yield "longest formula of constants", text(longest_exact(), word, [READING[word]] * 16)
+        yield "longest formula of reciprocals", text(longest_divided(), word, [READING[word]] * 16)
     yield "too many readings for a refused formula", text(EXAMPLE[:-1], b"plain", [b"1"] * 40)
     yield "no inputs, no readings", text(reader.pack(4, 0, [(0, -5)], [0]), b"admit", [])
 
@@ -129,8 +154,18 @@ def steps():
         yield f"instruction {k} out of reach", of_lists(reader.pack(4, m, program, [m + k]), tuple(zip(far, *good(parts, m - 1))))
 
 
+def divisions():
+    """Each instruction a reciprocal of what may be 0, in the three jobs by turns; behind it a sum out of reach and one more of its kind."""
+    for k in range(MOST_INSTRUCTIONS):
+        m, parts = 2 + k % (MOST_INPUTS - 1), 1 + k % 3
+        near, far = MAY_BE_ZERO[parts], (M, 0, 0)[:parts]
+        program = [*IN_REACH[:k], (6, 0), (2, 1, 1), (6, 0)][:MOST_INSTRUCTIONS]
+        values = [near[k // 3 % len(near)], far, *good(parts, m - 2)]
+        yield f"instruction {k} divides by what may be 0", of_values(reader.pack(k % 17, m, program, [m + k]), values)
+
+
 def all_inputs(seed=1):
     yield from examples()
     yield from random_runs(random.Random(seed))
-    for some in (refused_formulas, coefficients, counts, sizes, bad_readings, steps, malformed):
+    for some in (refused_formulas, coefficients, divided, counts, sizes, bad_readings, steps, divisions, malformed):
         yield from some()

@@ -1,7 +1,10 @@
-"""A second reader of packed formulas, written from document 01 and document 02's request b: the file is one string of '0' and '1'."""
+"""A second reader of packed formulas, written from document 01 and document 02's requests b and e: the file is one string of '0' and
+'1'."""
 
 LARGEST = 2147483647
-NAMES = ("constant", "negate", "add", "subtract", "multiply", "coefficient")
+NAMES = ("constant", "negate", "add", "subtract", "multiply", "coefficient", "reciprocal")
+OF_ONE_OPERAND = ("negate", "reciprocal")
+MOST_SCALE_OF_A_RECIPROCAL = 16
 
 
 class Refused(Exception):
@@ -74,21 +77,23 @@ def coefficient(bits):
     return centre, margin
 
 
-def instruction(bits, value):
+def instruction(bits, value, scale):
     code = bits.field(3)
     if code >= len(NAMES):
         raise Refused(5)
     name = NAMES[code]
+    if name == "reciprocal" and scale > MOST_SCALE_OF_A_RECIPROCAL:
+        raise Refused(16)
     if name in ("constant", "coefficient"):
         return (name, *(constant if name == "constant" else coefficient)(bits))
-    return (name, *(operand(bits, value) for _ in range(1 if name == "negate" else 2)))
+    return (name, *(operand(bits, value) for _ in range(1 if name in OF_ONE_OPERAND else 2)))
 
 
 def formula(data):
     """(scale, m, l, n), the instructions and the outputs."""
     bits = Bits(data)
     scale, m, l, n = header(bits)
-    program = [instruction(bits, m + k) for k in range(l)]
+    program = [instruction(bits, m + k, scale) for k in range(l)]
     outputs = [operand(bits, m + l) for _ in range(n)]
     bits.padding()
     return (scale, m, l, n), program, outputs
@@ -98,7 +103,7 @@ def pack(scale, m, program, outputs, version=1, n=None, l=None):
     """The bytes of a formula, its fields as they are given, permitted or not."""
     fields = [(version, 7), (scale, 5), (m, 5), (len(program) if l is None else l, 10), (len(outputs) if n is None else n, 5)]
     for code, *rest in program:
-        widths = {0: (32,), 5: (32, 31)}.get(code, (10, 10))
+        widths = {0: (32,), 5: (32, 31), 6: (10,)}.get(code, (10, 10))
         fields += [(code, 3), *((number % (1 << width), width) for number, width in zip(rest, widths))]
     fields += [(name, 10) for name in outputs]
     text = "".join(format(number, f"0{width}b") for number, width in fields)

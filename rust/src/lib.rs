@@ -8,8 +8,8 @@
 //!
 //! The caller lends the memory: a work list needs a place for each value, an output list one for each output. [`Balls`] and [`Matryoshki`]
 //! have room for every formula; [`check`] tells what one formula needs. After an answer the work list holds all values. After
-//! [`Refusal::OutOfReach`] it holds those before the refused instruction. Later places, and with the other refusals all, keep what they
-//! held.
+//! [`Refusal::OutOfReach`] and [`Refusal::MayBeZero`] it holds those before the refused instruction. Later places, and with the other
+//! refusals all, keep what they held.
 //!
 //! ```
 //! // Scale 4: value 2 is value 0 times value 1, value 3 is value 2 plus value 0, output 3.

@@ -15,7 +15,7 @@ pub enum Refusal {
     Scale,
     /// 4: the number of inputs, instructions or outputs is outside its limits, or the instructions' lists differ in length.
     Count,
-    /// 5: the code is outside 0 to 5.
+    /// 5: the code is outside 0 to 6.
     Code,
     /// 6: an operand or output names no permitted value.
     Operand,
@@ -33,6 +33,11 @@ pub enum Refusal {
     NegativeMargin,
     /// 15: a reading's |centre| + stray + margin is over 2147483647. The place is the reading, from 0; those before it are good.
     ReadingTooLarge,
+    /// 16: a reciprocal in a formula whose scale is over 16.
+    ReciprocalScale,
+    /// 17: a reciprocal of what may be 0: its operand is 0, or its margin, with the stray in [`admit`](crate::admit), reaches 0. Keep it away
+    /// from 0, or shrink the margins or the domain, so that |centre| is over margin plus stray. The place is the instruction, from 0.
+    MayBeZero,
     /// A number that this version has no name for. A later one may name it: rather compare, or ask [`Refusal::number`].
     Other(u32),
 }
@@ -60,6 +65,8 @@ impl Refusal {
             13 => Refusal::ReadingCount,
             14 => Refusal::NegativeMargin,
             15 => Refusal::ReadingTooLarge,
+            16 => Refusal::ReciprocalScale,
+            17 => Refusal::MayBeZero,
             _ => Refusal::Other(number),
         })
     }
@@ -67,7 +74,7 @@ impl Refusal {
     /// What the place of this refusal counts; without a name here it has no place.
     pub(crate) const fn place_name(self) -> Option<&'static str> {
         match self.number() {
-            11 => Some("instruction"),
+            11 | 17 => Some("instruction"),
             14 | 15 => Some("reading"),
             _ => None,
         }
@@ -81,7 +88,7 @@ impl Refusal {
             Refusal::Count => {
                 (4, "the number of inputs, instructions or outputs is outside its limits, or the instructions' lists differ in length")
             }
-            Refusal::Code => (5, "the code is outside 0 to 5"),
+            Refusal::Code => (5, "the code is outside 0 to 6"),
             Refusal::Operand => (6, "an operand or output names no permitted value"),
             Refusal::Constant => (7, "a constant is outside -2147483647 to 2147483647, or its margin is below 0 or reaches outside"),
             Refusal::Padding => (8, "a padding bit is set or a byte follows"),
@@ -90,12 +97,14 @@ impl Refusal {
             Refusal::ReadingCount => (13, "the number of readings isn't that of the inputs"),
             Refusal::NegativeMargin => (14, "a reading has a negative stray or margin"),
             Refusal::ReadingTooLarge => (15, "a reading's |centre| + stray + margin is over 2147483647"),
+            Refusal::ReciprocalScale => (16, "a reciprocal in a formula whose scale is over 16"),
+            Refusal::MayBeZero => (17, "a reciprocal of what may be 0"),
             Refusal::Other(number) => (number, "for a reason that this version has no words for"),
         }
     }
 }
 
-// By the number, so that `Refusal::Other(16)` stays equal to what the library gives once a later version names 16.
+// By the number, so that `Refusal::Other(18)` stays equal to what the library gives once a later version names 18.
 impl PartialEq for Refusal {
     fn eq(&self, other: &Self) -> bool {
         self.number() == other.number()
@@ -134,8 +143,8 @@ impl Error for Refusal {}
 pub struct Refused {
     /// Why.
     pub refusal: Refusal,
-    /// Where, from 0: with [`Refusal::OutOfReach`] the instruction, with [`Refusal::NegativeMargin`] and [`Refusal::ReadingTooLarge`] the
-    /// reading. The other refusals of this version have no place.
+    /// Where, from 0: with [`Refusal::OutOfReach`] and [`Refusal::MayBeZero`] the instruction, with [`Refusal::NegativeMargin`] and
+    /// [`Refusal::ReadingTooLarge`] the reading. The other refusals of this version have no place.
     pub place: Option<usize>,
 }
 

@@ -34,6 +34,37 @@ fn every_run_tells_the_instruction_that_is_out_of_reach() {
 }
 
 #[test]
+fn every_run_tells_the_reciprocal_of_what_may_be_zero() {
+    // Scale 4: value 1 is value 0 negated, value 2 the reciprocal of value 1.
+    let mut bytes = [0; MOST_BYTES];
+    let count = pack(4, 1, &[code::NEGATE, code::RECIPROCAL], &[0, 1], &[0, 0], &[2], &mut bytes).unwrap();
+    let formula = &bytes[..count];
+    let refused = Err(at(Refusal::MayBeZero, 1));
+
+    let (mut work, mut output) = ([7; 3], [7; 1]);
+    assert_eq!(plain(formula, &[3], &mut work, &mut output), Ok(1));
+    assert_eq!((work, output), ([3, -3, -85], [-85]));
+    let (mut work, mut output) = ([7; 3], [7; 1]);
+    assert_eq!(plain(formula, &[0], &mut work, &mut output), refused);
+    assert_eq!((work, output), ([0, 0, 7], [7]));
+
+    let (mut work, mut output) = (Balls::default(), Balls::default());
+    assert_eq!(ball(formula, &[3], &[3], work.lent(), output.lent()), refused);
+    assert_eq!(ball_records(formula, &[Reading { centre: -3, margin: 3 }], work.lent(), output.lent()), refused);
+    assert_eq!(output, Balls::default());
+    assert_eq!(ball(formula, &[3], &[2], work.lent(), output.lent()), Ok(1));
+    assert_eq!((output.centres[0], output.margins[0]), (-85, 172));
+
+    let (mut work, mut output) = (Matryoshki::default(), Matryoshki::default());
+    for (stray, margin) in [(3, 0), (0, 3), (2, 1), (1, 2), (5, 5)] {
+        assert_eq!(admit(formula, &[3], &[stray], &[margin], work.lent(), output.lent()), refused);
+    }
+    assert_eq!(output, Matryoshki::default());
+    assert_eq!(admit(formula, &[3], &[1], &[1], work.lent(), output.lent()), Ok(1));
+    assert_eq!((output.middles[0], output.strays[0], output.margins[0]), (-85, 43, 129));
+}
+
+#[test]
 fn the_other_refusals_have_no_place() {
     let (mut work, mut output) = ([7; 4], [7; 1]);
     assert_eq!(plain(&[], &[], &mut work, &mut output), Err(Refusal::Ended.into()));
@@ -102,14 +133,22 @@ fn check_refuses_with_each_number_of_the_file() {
     assert_eq!(check(&lowest).unwrap_err().refusal, Refusal::Constant);
     assert_eq!(check(&lowest[..12]).unwrap_err().refusal, Refusal::Ended);
     assert_eq!(check(&[&FORMULA[..], &[0]].concat()).unwrap_err().refusal, Refusal::Padding);
+    // Scale 17, one input, value 1 its reciprocal: refused right behind the code, whether its operand is there or not.
+    let divided = [0x03, 0x10, 0x80, 0x21, 0xc0, 0x00, 0x02];
+    assert_eq!(check(&divided).unwrap_err().refusal, Refusal::ReciprocalScale);
+    assert_eq!(check(&divided[..5]).unwrap_err().refusal, Refusal::ReciprocalScale);
+    assert_eq!(check(&divided[..4]).unwrap_err().refusal, Refusal::Ended);
+    let at_sixteen = [0x03, 0x00, 0x80, 0x21, 0xc0, 0x00, 0x02];
+    assert_eq!(check(&at_sixteen), Ok(Formula { scale: 16, inputs: 1, instructions: 1, outputs: 1 }));
 }
 
 #[test]
 fn each_number_has_one_refusal_and_words_of_its_own() {
     assert_eq!(Refusal::numbered(0), None);
     assert_eq!(Refusal::Other(11), Refusal::OutOfReach);
-    assert_ne!(Refusal::Other(16), Refusal::OutOfReach);
-    let numbers = [1, 2, 3, 4, 5, 6, 7, 8, 10, 11, 13, 14, 15];
+    assert_eq!((Refusal::Other(16), Refusal::Other(17)), (Refusal::ReciprocalScale, Refusal::MayBeZero));
+    assert_ne!(Refusal::Other(18), Refusal::OutOfReach);
+    let numbers = [1, 2, 3, 4, 5, 6, 7, 8, 10, 11, 13, 14, 15, 16, 17];
     let words = numbers.map(|number| Refusal::numbered(number).unwrap().to_string());
     for (number, said) in numbers.into_iter().zip(&words) {
         assert_eq!(Refusal::numbered(number).unwrap().number(), number);
@@ -120,7 +159,7 @@ fn each_number_has_one_refusal_and_words_of_its_own() {
 
 #[test]
 fn a_later_number_is_kept_and_told() {
-    for number in [9, 12, 16, 4096, u32::MAX] {
+    for number in [9, 12, 18, 4096, u32::MAX] {
         let refusal = Refusal::numbered(number).unwrap();
         assert!(matches!(refusal, Refusal::Other(n) if n == number));
         assert_eq!(refusal.number(), number);
@@ -133,6 +172,9 @@ fn a_later_number_is_kept_and_told() {
 fn the_words_say_where() {
     assert_eq!(out_of_reach(3).to_string(), "a step's result is out of reach (refused 11), at instruction 3");
     assert_eq!(Refused::from(Refusal::OutOfReach).to_string(), "a step's result is out of reach (refused 11)");
+    assert_eq!(at(Refusal::MayBeZero, 511).to_string(), "a reciprocal of what may be 0 (refused 17), at instruction 511");
+    let scale = Refused::from(Refusal::ReciprocalScale).to_string();
+    assert_eq!(scale, "a reciprocal in a formula whose scale is over 16 (refused 16)");
     let negative = at(Refusal::NegativeMargin, 0).to_string();
     assert_eq!(negative, "a reading has a negative stray or margin (refused 14), at reading 0");
     let large = at(Refusal::ReadingTooLarge, 15).to_string();

@@ -46,6 +46,7 @@ fn step(scale: u32, i: Instruction, centres: &[i64], margins: &[u64], made: usiz
             value_at(centres, margins, b, made),
         ),
         Instruction::Coefficient(c, r) => steps::coefficient(c, r),
+        Instruction::Reciprocal(a) => steps::reciprocal(scale, value_at(centres, margins, a, made)),
     }
 }
 

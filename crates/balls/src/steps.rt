@@ -3,6 +3,7 @@ ghost use mathlib.Core.Path.{_≡_};
 ghost use Prim.Native.Nat.{_^_, _≤_, _<_};
 ghost use Rattle.rules.specs.Numbers.{top-scale};
 ghost use Rattle.rules.specs.Values.{IsBall, ball-reach};
+ghost use Rattle.rules.specs.Reciprocals.{top-reciprocal-scale};
 ghost use Rattle.rules.specs.Operation.{Operation};
 ghost use Rattle.rules.specs.Steps.{AtEveryScale, within-reach, ball-answer};
 ghost use Rattle.rules.specs.Balls.{ball-rule};
@@ -86,4 +87,21 @@ pub fn coefficient(c: i64, r: u64) -> BallStep
         centre: c,
         margin: r,
     })
+}
+
+// Or refusal 17 where the ball holds 0.
+pub fn reciprocal(scale: u32, x: Ball) -> BallStep
+    requires { ⌜ (scale ≤ top-reciprocal-scale) × IsBall x ⌝ }
+    ensures { λ r. ⌜ ball-answer r ≡ ball-rule scale (Operation.reciprocal x) ⌝ }
+{
+    let size = whole::magnitude(x.centre);
+    if x.margin < size {
+        let inverse = reciprocals::inverse(scale, x.centre);
+        let spread = reciprocals::spread_over(scale, x.margin, size - x.margin, size);
+        return keep(Ball {
+            centre: inverse.centre,
+            margin: spread + inverse.missed,
+        });
+    }
+    BallStep::Refused(Refusal::MayBeZero)
 }

@@ -28,7 +28,7 @@ use Rattle.checking.specs.CheckAnswers.{PassedOver, BodyPassed}
 
 module _ (h : Header) where
   abbrev the-program : Form (List Instruction)
-  the-program = program (h .instructions) (h .inputs)
+  the-program = program (h .scale) (h .instructions) (h .inputs)
 
   abbrev the-results : Form (List ℕ)
   the-results = results (h .outputs) (h .inputs + h .instructions)
@@ -75,7 +75,7 @@ module _ (h : Header) where
 -- ---- the body, as the code goes through it
 
 module _ {s : List ℕ} (h : Header) {c : Cursor} {p : Passed}
-    (a : PassedOver s (program (h .instructions) (h .inputs)) (widest * h .instructions) c p) where
+    (a : PassedOver s (program (h .scale) (h .instructions) (h .inputs)) (widest * h .instructions) c p) where
   pub program-stops : {r : Refusal} → p ≡ passed.Refused r → BodyPassed s h c p
   program-stops u =
       let e = by-case (passed-answer s) (a .answers) u in

@@ -40,12 +40,12 @@ pub record GoesOn {A : Type 0} (s : List ℕ) (f : Form A) (c d : Cursor) : Type
   pub got : A
   pub is : read f (before s c) ≡ value (record { got = got; left = before s d })
 
-module _ {s : List ℕ} {v : ℕ} {c : Cursor} {q : InstructionRead} (e : Instructed s v c q) where
-  instruction-stops : {r : Refusal} → q ≡ instruction-read.Refused r → Stops s (instruction v) c r
+module _ {s : List ℕ} {F v : ℕ} {c : Cursor} {q : InstructionRead} (e : Instructed s F v c q) where
+  instruction-stops : {r : Refusal} → q ≡ instruction-read.Refused r → Stops s (instruction F v) c r
   instruction-stops u = record { is = by-case (instruction-answer s) (e .answers) u }
 
   module _ {i : Instruction} {d : Cursor} (u : q ≡ instruction-read.Got i d) where
-    instruction-on : GoesOn s (instruction v) c d
+    instruction-on : GoesOn s (instruction F v) c d
     instruction-on = record { got = i; is = by-case (instruction-answer s) (e .answers) u }
 
     instruction-near : d .at ≤ c .at + widest
@@ -173,17 +173,17 @@ pub eight-there : (s : List ℕ) (c : Cursor) {b : Bool} → b ≡ ltb (length s
     → c .at / 8 + 8 ≤ length s
 eight-there s c e f = ltb-false (length s) (c .at / 8 + 8) (sym e ∙ f)
 
-pub instructions-near : {s : List ℕ} {c at : Cursor} {v n k : ℕ} → Passing instruction widest s c v n at k → c .at ≤ 32
+pub instructions-near : {s : List ℕ} {c at : Cursor} (F : ℕ) {v n k : ℕ} → Passing (instruction F) widest s c v n at k → c .at ≤ 32
     → n ≤ 512 → at .at ≤ 2 ^ 16
-instructions-near p l m = omega (arith, p .near, p .most)
+instructions-near F p l m = omega (arith, p .near, p .most)
 
-module _ {s : List ℕ} {c at : Cursor} {v n k : ℕ} {q : InstructionRead} where
-  pub instruction-refused : {r : Refusal} → q ≡ instruction-read.Refused r → Instructed s (v + k) at q
-      → Passing instruction widest s c v n at k → (k ≡ n → ⊥) → PassedOver s (several instruction n v) (widest * n) c (Refused r)
-  instruction-refused u e p other = one-refused instruction widest s c v n p other (instruction-stops e u)
+module _ {s : List ℕ} {c at : Cursor} {F v n k : ℕ} {q : InstructionRead} where
+  pub instruction-refused : {r : Refusal} → q ≡ instruction-read.Refused r → Instructed s F (v + k) at q
+      → Passing (instruction F) widest s c v n at k → (k ≡ n → ⊥) → PassedOver s (several (instruction F) n v) (widest * n) c (Refused r)
+  instruction-refused u e p other = one-refused (instruction F) widest s c v n p other (instruction-stops e u)
 
   pub instruction-passed : {i : Instruction} {d : Cursor} → q ≡ instruction-read.Got i d
-      → Instructed s (v + k) at q → Passing instruction widest s c v n at k → (k ≡ n → ⊥)
-      → Passing instruction widest s c v n d (k + 1)
+      → Instructed s F (v + k) at q → Passing (instruction F) widest s c v n at k → (k ≡ n → ⊥)
+      → Passing (instruction F) widest s c v n d (k + 1)
   instruction-passed u e p other =
-      one-passed instruction widest s c v n p other (instruction-on e u) (instruction-near e u)
+      one-passed (instruction F) widest s c v n p other (instruction-on e u) (instruction-near e u)

@@ -17,7 +17,7 @@ fn pass_body(s: &[u8], h: Header, c: Cursor) -> Passed
 {
     let m = h.inputs;
     let l = h.instructions;
-    let program = passing::pass_instructions(s, c, m, l);
+    let program = passing::pass_instructions(s, c, h.scale, m, l);
     let Passed::At(d) = program else {
         return program;
     };

@@ -12,9 +12,9 @@ use reading::read_whole;
 use refusals::Refusal;
 
 // `count` instructions, the first of which makes value `first`, where the bytes may end inside one.
-fn pass_last(s: &[u8], c: Cursor, first: usize, count: usize) -> Passed
+fn pass_last(s: &[u8], c: Cursor, scale: u32, first: usize, count: usize) -> Passed
     requires { ⌜ (c .at ≤ 2 ^ 20) × (first ≤ 528) × (count ≤ 512) ⌝ }
-    ensures { λ r. ⌜ PassedOver (now (s .entry)) (program count first) (widest * count) c r ⌝ }
+    ensures { λ r. ⌜ PassedOver (now (s .entry)) (program scale count first) (widest * count) c r ⌝ }
 {
     let mut at = c;
     let mut k = 0;
@@ -22,7 +22,7 @@ fn pass_last(s: &[u8], c: Cursor, first: usize, count: usize) -> Passed
         if k == count {
             break Passed::At(at);
         }
-        match read_instruction(s, at, first + k) {
+        match read_instruction(s, at, scale, first + k) {
             InstructionRead::Refused(r) => break Passed::Refused(r),
             InstructionRead::Got(_, next) => {
                 at = next;
@@ -33,9 +33,15 @@ fn pass_last(s: &[u8], c: Cursor, first: usize, count: usize) -> Passed
 }
 
 // The same from a header on: as long as eight bytes are there an instruction is read whole.
-pub(crate) fn pass_instructions(s: &[u8], c: Cursor, inputs: usize, count: usize) -> Passed
+pub(crate) fn pass_instructions(
+    s: &[u8],
+    c: Cursor,
+    scale: u32,
+    inputs: usize,
+    count: usize,
+) -> Passed
     requires { ⌜ (c .at ≤ 32) × (inputs ≤ 16) × (count ≤ 512) ⌝ }
-    ensures { λ r. ⌜ PassedOver (now (s .entry)) (program count inputs) (widest * count) c r ⌝ }
+    ensures { λ r. ⌜ PassedOver (now (s .entry)) (program scale count inputs) (widest * count) c r ⌝ }
 {
     let mut at = c;
     let mut k = 0;
@@ -44,9 +50,9 @@ pub(crate) fn pass_instructions(s: &[u8], c: Cursor, inputs: usize, count: usize
             break Passed::At(at);
         }
         if near_end(s, at) {
-            break pass_last(s, at, inputs + k, count - k);
+            break pass_last(s, at, scale, inputs + k, count - k);
         }
-        match read_whole(s, at, inputs + k) {
+        match read_whole(s, at, scale, inputs + k) {
             InstructionRead::Refused(r) => break Passed::Refused(r),
             InstructionRead::Got(_, next) => {
                 at = next;

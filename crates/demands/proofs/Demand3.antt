@@ -12,6 +12,8 @@ use Rattle.lists.specs.Joined.{Rel}
 use Rattle.lists.proofs.Joined.{rel-length, rel-picked}
 use Rattle.refusals.specs.declared.Reply.{Reply}
 use Rattle.refusals.specs.declared.Reply.the-variants.{Done}
+use Rattle.refusals.specs.Answer.{value}
+use Rattle.refusals.proofs.Answers.{same-value}
 use Rattle.rules.specs.declared.Ball.{Ball}
 use Rattle.rules.specs.declared.Matryoshka.{Matryoshka}
 use Rattle.whole.proofs.Ring.{ring, _⊕_, _⊖_, _⊗_, x₀, x₁, x₂, x₃}
@@ -19,22 +21,23 @@ use Rattle.whole.proofs.Size.{size-by, size-add, size-mul}
 use Rattle.rules.specs.Numbers.{Q}
 use Rattle.rules.specs.Values.{Fraction, Contains, Covers}
 use Rattle.rules.specs.Plain.{plain-rule}
+use Rattle.rules.specs.Balls.{ball-rule}
 use Rattle.rules.specs.Lists.{balls, centres-of, no-ball, matryoshki, static-margins-of, no-matryoshka}
 use Rattle.rules.proofs.Lists.{centre-part, static-part, balls-centres}
 use Rattle.lists.proofs.PartOf.{part-front}
-use Rattle.formulas.specs.Formula.{Smaller, places}
+use Rattle.formulas.specs.Formula.{Formula, Smaller, places}
 use Rattle.formulas.specs.Run.{finished, run}
 use Rattle.formulas.specs.Readings.{BallReadings, Domain, plain-brought, balls-brought, domain-brought}
 use Rattle.formulas.specs.Kinds.{plain-kind, ball-kind, matryoshka-kind}
 use Rattle.formulas.specs.Job.{Lent, Kept}
 use Rattle.formulas.specs.ExactRun.{nought, ExactRun}
-use Rattle.formulas.proofs.Enclosure.{run-encloses}
+use Rattle.formulas.proofs.Enclosure.{run-encloses, exact-run-goes-on}
 use Rattle.formulas.proofs.Covering.{CoveredRun, run-covers}
 use Rattle.formulas.proofs.Judging.{Fit}
 use Rattle.formulas.proofs.Fitting.{let-in, let-through, ball-fit, balls-even, ball-many}
 use Rattle.formulas.proofs.Lawful.{plain-lawful, matryoshka-lawful}
 use Rattle.packed.specs.Meaning.{formula}
-use Rattle.demands.specs.Demands.{Chosen, exact-outputs, InDomain, LongEnough, WithinStray, stray-plus-margin, Admitted}
+use Rattle.demands.specs.Demands.{Chosen, exact-outputs, HasExact, InDomain, LongEnough, WithinStray, stray-plus-margin, Admitted}
 use Rattle.demands.proofs.Answering.{picked, Answers, answers, all-made, outputs-stand, AnswersWith, answers-with}
 use Rattle.demands.proofs.Nearness.{near-covered, near-fit}
 
@@ -92,7 +95,7 @@ module _ {s : List ℕ} {d : Domain} {old new : Lent matryoshka-kind} {n : ℕ} 
     covers : CoveredRun F (a .on .formula .program) readings (a .made)
     covers =
         run-covers F no-matryoshka (a .on .formula .program) (subst (λ (ms : List Matryoshka). Rel Covers ms readings) (was-let-in .1) (near-covered w))
-        (subst (λ (m : ℕ). Each Smaller m (a .on .formula .program)) (sym (matryoshka-lawful .tested-values (a .on .formula .header .inputs) d (a .started .fits) .many))
+        (subst (λ (m : ℕ). Each (Smaller F) m (a .on .formula .program)) (sym (matryoshka-lawful .tested-values (a .on .formula .header .inputs) d (a .started .fits) .many))
         (a .well .operands-smaller))
         (a .finishes)
 
@@ -138,19 +141,37 @@ module _ {s : List ℕ} {d : Domain} {old new : Lent matryoshka-kind} {n : ℕ} 
     covered-outputs =
         rel-picked no-matryoshka no-ball (covers .covered) (a .well .results-below) (omega (arith, all-made matryoshka-lawful a))
 
+    as-named : Each (Smaller F) (length readings) (a .on .formula .program)
+    as-named =
+        subst (λ (m : ℕ). Each (Smaller F) m (a .on .formula .program)) (sym (ball-many (ball-fit g (fit .1)))) (a .well .operands-smaller)
+
+    -- no fraction inside a covered ball that is divided by is 0
+    comes-through : HasExact (a .on .formula) g
+    comes-through =
+        record {
+          comes-through = λ is js e xs ys c x.
+              exact-run-goes-on F no-ball is js c (subst (Each (Smaller F) (length readings)) e as-named)
+              (ap (λ l. run (ball-rule F) no-ball l readings) (sym e) ∙ covers .balls-finish) x;
+        }
+
     enclosed-outputs : {xs ys : List Fraction} → Chosen F g xs → ExactRun F (a .on .formula .program) xs ys
         → Rel (Contains F) outs (exact-outputs (a .on .formula) ys)
     enclosed-outputs c x =
         rel-picked no-ball nought
-        (run-encloses F no-ball (a .on .formula .program) c
-        (subst (λ (m : ℕ). Each Smaller m (a .on .formula .program)) (sym (ball-many (ball-fit g (fit .1)))) (a .well .operands-smaller))
-        (covers .balls-finish) x)
+        (run-encloses F no-ball (a .on .formula .program) c as-named (covers .balls-finish) x)
         (a .well .results-below) (omega (arith, all-covered))
 
   static-stand : take n (new .output .margins) ≡ static-margins-of (picked no-matryoshka (a .made) os)
   static-stand =
       part-front static-part (picked no-matryoshka (a .made) os) (old .output .margins)
       (length-map os (λ o. getD (a .made) o no-matryoshka) ∙ sym (a .as-many)) (a .output-holds .margins-hold)
+
+-- an admitted domain: exact arithmetic comes through for all choices inside readings within it
+pub exact-in-domain : (s : List ℕ) {d : Domain} {old new : Lent matryoshka-kind} {n : ℕ} → Kept matryoshka-kind (formula s) d old new (Done n)
+    → {f : Formula} → formula s ≡ value f → {g : BallReadings} → InDomain d g → HasExact f g
+exact-in-domain s k e {g} w =
+    let a = answers k in
+    subst (λ (f : Formula). HasExact f g) (same-value (sym (a .started .means) ∙ e)) (comes-through a w)
 
 pub demand-3 : {s : List ℕ} {d : Domain} {old new : Lent matryoshka-kind} {n : ℕ} → Kept matryoshka-kind (formula s) d old new (Done n) → Admitted s d new n
 demand-3 {s} {n = n} k =

@@ -2,7 +2,7 @@
 -- leaves.
 use mathlib.Core.Path.{_≡_}
 use mathlib.Core.Bool.{true}
-use mathlib.Core.List.{List, [], _∷_, map}
+use mathlib.Core.List.{List, [], _∷_, _++_, map}
 use Prim.Native.Nat.{ℕ, _+_, _≤_}
 use lib.IntN.{ℤ, _-ℤ_, natAbs}
 use lib.ListN.{getD, take}
@@ -17,6 +17,7 @@ use Rattle.rules.specs.Values.{Fraction, Contains}
 use Rattle.rules.specs.Balls.{ball}
 use Rattle.rules.specs.Lists.{balls}
 use Rattle.formulas.specs.declared.Header.{Header}
+use Rattle.formulas.specs.declared.Instruction.{Instruction}
 use Rattle.formulas.specs.Formula.{Formula, places}
 use Rattle.formulas.specs.Readings.{BallReadings, Domain}
 use Rattle.formulas.specs.Kinds.{Kind, plain-kind, ball-kind, matryoshka-kind}
@@ -30,6 +31,14 @@ Chosen F given xs = Rel (Contains F) (balls (given .centres) (map natAbs (given 
 
 abbrev pub exact-outputs : Formula → List Fraction → List Fraction
 exact-outputs f ys = map (λ o. getD ys o nought) (f .results)
+
+-- request e: a fraction's reciprocal is there where the fraction is not 0. For every choice inside these readings exact
+-- arithmetic comes through the formula: from any first part `is`, whatever it took for the constants in it, through the
+-- rest `js`
+pub record HasExact (f : Formula) (given : BallReadings) : Type 0 where
+  pub comes-through : (is js : List Instruction) → f .program ≡ is ++ js → (xs ys : List Fraction)
+      → Chosen (f .header .scale) given xs → ExactRun (f .header .scale) is xs ys
+      → (zs : List Fraction) × ExactRun (f .header .scale) js ys zs
 
 -- "in a ball run exact arithmetic on any fractions inside the reading margins lands inside the printed margin": for
 -- each value and each output of what a ball job with n outputs left

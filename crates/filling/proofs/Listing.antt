@@ -12,7 +12,7 @@ use Rattle.rules.specs.Values.{Allowed}
 use Rattle.bits.specs.declared.Cursor.{Cursor}
 use Rattle.formulas.specs.declared.Header.{Header}
 use Rattle.formulas.specs.declared.Instruction.{Instruction}
-use Rattle.formulas.specs.declared.Instruction.the-variants.{Constant, Negate, Add, Subtract, Multiply, Coefficient}
+use Rattle.formulas.specs.declared.Instruction.the-variants.{Constant, Negate, Add, Subtract, Multiply, Coefficient, Reciprocal}
 use Rattle.formulas.specs.Formula.{Smaller}
 use Rattle.packed.specs.Meaning.{meant}
 use Rattle.packed.specs.declared.loaded.Loaded.{Loaded}
@@ -29,13 +29,14 @@ pub record Listing (part : RawInstruction → ℤ) (s : List ℕ) (h : Header) (
   pub filled : Filled (map part (map raw-of (meant s .program))) old now k
 
 -- every number that stands for an instruction is small
-raw-small : (i : Instruction) → Smaller 1024 i → Allowed (raw-of i .code) × Allowed (raw-of i .first) × Allowed (raw-of i .second)
+raw-small : (i : Instruction) → Smaller 0 1024 i → Allowed (raw-of i .code) × Allowed (raw-of i .first) × Allowed (raw-of i .second)
 raw-small (Constant c) p = (omega arith, p, omega arith)
 raw-small (Negate a) p = (omega arith, omega arith, omega arith)
 raw-small (Add a b) p = (omega arith, omega arith, omega arith)
 raw-small (Subtract a b) p = (omega arith, omega arith, omega arith)
 raw-small (Multiply a b) p = (omega arith, omega arith, omega arith)
 raw-small (Coefficient c r) p = (omega arith, omega arith, omega arith)
+raw-small (Reciprocal a) p = (omega arith, omega arith, omega arith)
 
 module _ {part : RawInstruction → ℤ} {s : List ℕ} {h : Header} {old : List ℤ} where
   pub listing-none : h .instructions ≤ length old → Listing part s h old old 0

@@ -17,7 +17,7 @@ use Rattle.bits.specs.Reader.{Read}
 use Rattle.bits.specs.Fields.{before}
 use Rattle.formulas.specs.declared.Header.{Header}
 use Rattle.formulas.specs.declared.Instruction.{Instruction}
-use Rattle.formulas.specs.declared.Instruction.the-variants.{Constant, Negate, Add, Subtract, Multiply, Coefficient}
+use Rattle.formulas.specs.declared.Instruction.the-variants.{Constant, Negate, Add, Subtract, Multiply, Coefficient, Reciprocal}
 use Rattle.formulas.specs.Formula.{Smaller, places}
 use Rattle.packed.specs.Items.{read}
 use Rattle.packed.specs.Format.{program, results, several, wide, all-wide, widest}
@@ -36,16 +36,16 @@ use Rattle.walks.proofs.Walking.{first}
 pub record Turn (s : List ℕ) (h : Header) (c : Cursor) (k : ℕ) : Type 0 where
   pub there : Formed s h
   pub few : k ≤ h .instructions
-  pub rest : Program s c (h .instructions - k) (h .inputs + k)
+  pub rest : Program s (h .scale) c (h .instructions - k) (h .inputs + k)
   pub are : rest .all .got ≡ drop k (meant s .program)
   pub last : rest .all .left ≡ there .instructions .left
   pub near : c .at ≤ 32 + widest * k
   pub stands : c .at + all-wide (rest .all .got) ≡ 32 + all-wide (meant s .program)
 
 -- the same instructions, with their number and the first value's number written another way
-renamed : (bs : List ℕ) {x : Read (List Instruction)} {n v k w : ℕ} → n ≡ k → v ≡ w
-    → read (program n v) bs ≡ value x → read (program k w) bs ≡ value x
-renamed bs {x} e f r = subst₂ (λ (k w : ℕ). read (program k w) bs ≡ value x) e f r
+renamed : (F : ℕ) (bs : List ℕ) {x : Read (List Instruction)} {n v k w : ℕ} → n ≡ k → v ≡ w
+    → read (program F n v) bs ≡ value x → read (program F k w) bs ≡ value x
+renamed F bs {x} e f r = subst₂ (λ (k w : ℕ). read (program F k w) bs ≡ value x) e f r
 
 pub turn-start : {s : List ℕ} {h : Header} → checked s ≡ value h → Turn s h first 0
 turn-start {s} {h} e =
@@ -53,7 +53,7 @@ turn-start {s} {h} e =
     record {
       there = f;
       few = omega arith;
-      rest = record { all = f .instructions; reads = renamed (before s first) all none (f .reads-instructions) };
+      rest = record { all = f .instructions; reads = renamed (h .scale) (before s first) all none (f .reads-instructions) };
       are = f .is-program;
       last = refl;
       near = omega arith;
@@ -66,14 +66,15 @@ turn-start {s} {h} e =
     none : h .inputs ≡ h .inputs + 0
     none = omega arith
 
--- operands below one number are below a greater
-smaller-below : {v w : ℕ} (i : Instruction) → v ≤ w → Smaller v i → Smaller w i
-smaller-below (Constant c) l p = p
-smaller-below (Negate a) l p = omega arith
-smaller-below (Add a b) l p = (omega arith, omega arith)
-smaller-below (Subtract a b) l p = (omega arith, omega arith)
-smaller-below (Multiply a b) l p = (omega arith, omega arith)
-smaller-below (Coefficient c r) l p = p
+-- operands below one number are below a greater, and what is permitted at one scale is at scale 0
+smaller-below : (F v : ℕ) {w : ℕ} (i : Instruction) → v ≤ w → Smaller F v i → Smaller 0 w i
+smaller-below F v (Constant c) l p = p
+smaller-below F v (Negate a) l p = omega arith
+smaller-below F v (Add a b) l p = (omega arith, omega arith)
+smaller-below F v (Subtract a b) l p = (omega arith, omega arith)
+smaller-below F v (Multiply a b) l p = (omega arith, omega arith)
+smaller-below F v (Coefficient c r) l p = p
+smaller-below F v (Reciprocal a) l p = (omega arith, omega arith)
 
 heads : {A : Type 0} {a b : A} {xs ys : List A} → _≡_ {A = List A} (a ∷ xs) (b ∷ ys) → (a ≡ b) × (xs ≡ ys)
 heads e = (cc, cc)
@@ -97,7 +98,7 @@ module _ {s : List ℕ} {h : Header} {c : Cursor} {k : ℕ} (t : Turn s h c k) w
   turn-ends l =
       let f = t .there in
       let no-more : h .instructions - k ≡ 0 = omega arith in
-      let none = same-value (renamed (before s c) no-more refl (t .rest .reads)) in
+      let none = same-value (renamed (h .scale) (before s c) no-more refl (t .rest .reads)) in
       let left : before s c ≡ f .instructions .left = ap (λ (r : Read (List Instruction)). r .left) none ∙ t .last in
       record {
         stands = omega (arith, t .stands, ap (λ (r : Read (List Instruction)). all-wide (r .got)) none);
@@ -110,28 +111,28 @@ module _ {s : List ℕ} {h : Header} {c : Cursor} {k : ℕ} (t : Turn s h c k) w
       }
 
   module _ (more : k < h .instructions) where
-    split : Split s c (h .instructions - (k + 1)) (h .inputs + k) (t .rest .all)
-    split = program-split (record { all = t .rest .all; reads = renamed (before s c) one-left refl (t .rest .reads) })
+    split : Split s (h .scale) c (h .instructions - (k + 1)) (h .inputs + k) (t .rest .all)
+    split = program-split (record { all = t .rest .all; reads = renamed (h .scale) (before s c) one-left refl (t .rest .reads) })
       where
         one-left : h .instructions - k ≡ suc (h .instructions - (k + 1))
         one-left = omega arith
 
     pub turn-readable : {l : Loaded} → Loads s c l → Readable s (place-of l)
-    turn-readable o = readable-place o (record { below = h .inputs + k; all = split .here; reads = split .reads-here })
+    turn-readable o = readable-place o (record { scale = h .scale; below = h .inputs + k; all = split .here; reads = split .reads-here })
 
     module _ {l : Loaded} (loads : Loads s c l) {i : Instruction} {e : Cursor} (from : DecodesFrom s l i e) where
       decodes : Decodes s c i e
       decodes = decodes-place loads from
 
       is-here : i ≡ split .here .got
-      is-here = decodes .decoded (h .inputs + k) (split .here) (split .reads-here) .0
+      is-here = decodes .decoded (h .scale) (h .inputs + k) (split .here) (split .reads-here) .0
 
-      pub turn-smaller : Smaller 1024 i
+      pub turn-smaller : Smaller 0 1024 i
       turn-smaller =
-          smaller-below i (omega (arith, limits-of (t .there) .inputs-few, limits-of (t .there) .instructions-few))
-          (subst (Smaller (h .inputs + k)) (sym is-here) (head (subst (Each Smaller (h .inputs + k)) (split .both) (program-smaller (t .rest)))))
+          smaller-below (h .scale) (h .inputs + k) i (omega (arith, limits-of (t .there) .inputs-few, limits-of (t .there) .instructions-few))
+          (subst (Smaller (h .scale) (h .inputs + k)) (sym is-here) (head (subst (Each (Smaller (h .scale)) (h .inputs + k)) (split .both) (program-smaller (t .rest)))))
         where
-          head : {v : ℕ} {j : Instruction} {js : List Instruction} → Each Smaller v (j ∷ js) → Smaller v j
+          head : {v : ℕ} {j : Instruction} {js : List Instruction} → Each (Smaller (h .scale)) v (j ∷ js) → Smaller (h .scale) v j
           head (one p ps) = p
 
       next : (split .here .got ≡ getD (meant s .program) k i) × (split .rest .got ≡ drop (suc k) (meant s .program))
@@ -150,8 +151,8 @@ module _ {s : List ℕ} {h : Header} {c : Cursor} {k : ℕ} (t : Turn s h c k) w
                 record {
                   all = split .rest;
                   reads =
-                      subst₂ (λ (w : ℕ) (bs : List ℕ). read (program (h .instructions - (k + 1)) w) bs ≡ value (split .rest)) one-more
-                      (sym (decodes .decoded (h .inputs + k) (split .here) (split .reads-here) .1)) (split .reads-rest);
+                      subst₂ (λ (w : ℕ) (bs : List ℕ). read (program (h .scale) (h .instructions - (k + 1)) w) bs ≡ value (split .rest)) one-more
+                      (sym (decodes .decoded (h .scale) (h .inputs + k) (split .here) (split .reads-here) .1)) (split .reads-rest);
                 };
             are = next .1 ∙ ap (λ (n : ℕ). drop n (meant s .program)) (sym (add-one k));
             last = split .last ∙ t .last;

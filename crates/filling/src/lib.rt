@@ -22,8 +22,9 @@ struct Numbers {
     second: i64,
 }
 
+// At whatever scale: all that is permitted at another is at scale 0.
 fn numbers_of(i: Instruction) -> Numbers
-    requires { ⌜ Smaller 1024 i ⌝ }
+    requires { ⌜ Smaller 0 1024 i ⌝ }
     ensures { λ r. ⌜ raw (r .code) (r .first) (r .second) ≡ raw-of i ⌝ }
 {
     match i {
@@ -56,6 +57,11 @@ fn numbers_of(i: Instruction) -> Numbers
             code: 5,
             first: c,
             second: r as i64,
+        },
+        Instruction::Reciprocal(a) => Numbers {
+            code: 6,
+            first: a as i64,
+            second: 0,
         },
     }
 }

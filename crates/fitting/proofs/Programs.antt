@@ -57,56 +57,56 @@ read-back xs i s = toZ-ofZ w64 (getD xs i (pos 0)) (record { sfits = s })
 pub sizes-width : (ss : List Slot) {n : ℕ} → Sizes ss (Bits n) → slots-width ss ≡ n
 sizes-width ss z = same-value (first-of (slots-tested ss) (λ u. value (slots-width ss)) (sym (z .answers)) .then-was)
 
-pub instruction-few : (v : ℕ) (c a b : ℤ) {n : ℕ} → Sizes (instruction-slots v (raw c a b)) (Bits n) → n ≤ 66
-instruction-few v c a b z = subst (λ n. n ≤ 66) (sizes-width (instruction-slots v (raw c a b)) z) (instruction-wide v c a b)
+pub instruction-few : (F v : ℕ) (c a b : ℤ) {n : ℕ} → Sizes (instruction-slots F v (raw c a b)) (Bits n) → n ≤ 66
+instruction-few F v c a b z = subst (λ n. n ≤ 66) (sizes-width (instruction-slots F v (raw c a b)) z) (instruction-wide F v c a b)
 
 -- the bits of the first k are summed up
-pub record Program (m : ℕ) (cs fs ss : List ℤ) (k bits : ℕ) : Type 0 where
+pub record Program (F m : ℕ) (cs fs ss : List ℤ) (k bits : ℕ) : Type 0 where
   pub inside : k ≤ length cs
-  pub summed : Summing instruction-slots m (instructions-of cs fs ss) k bits
+  pub summed : Summing (instruction-slots F) m (instructions-of cs fs ss) k bits
 
-module _ (m : ℕ) (cs fs ss : List ℤ) where
-  pub program-none : Program m cs fs ss 0 0
-  program-none = record { inside = omega arith; summed = summing-none instruction-slots m (instructions-of cs fs ss) }
+module _ (F m : ℕ) (cs fs ss : List ℤ) where
+  pub program-none : Program F m cs fs ss 0 0
+  program-none = record { inside = omega arith; summed = summing-none (instruction-slots F) m (instructions-of cs fs ss) }
 
-  module _ {k bits : ℕ} (g : Program m cs fs ss k bits) (e : length cs ≡ length fs) (f : length cs ≡ length ss) where
+  module _ {k bits : ℕ} (g : Program F m cs fs ss k bits) (e : length cs ≡ length fs) (f : length cs ≡ length ss) where
     pub program-ends : length cs ≤ k
-        → Sizes (several-slots instruction-slots m (instructions-of cs fs ss)) (Bits bits)
+        → Sizes (several-slots (instruction-slots F) m (instructions-of cs fs ss)) (Bits bits)
     program-ends l =
-        summing-ends instruction-slots m (instructions-of cs fs ss) (g .summed)
+        summing-ends (instruction-slots F) m (instructions-of cs fs ss) (g .summed)
         (omega (arith, length-instructions-of cs fs ss e f, g .inside))
 
     module _ (l : k < length cs) (sc : mag (getD cs k (pos 0)) < 2 ^ 63) (sf : mag (getD fs k (pos 0)) < 2 ^ 63)
         (st : mag (getD ss k (pos 0)) < 2 ^ 63) {r₀ : Size}
-        (z : Sizes (instruction-slots (m + k)
+        (z : Sizes (instruction-slots F (m + k)
         (raw (back (getD cs k (pos 0))) (back (getD fs k (pos 0))) (back (getD ss k (pos 0))))) r₀) where
       within : k < length (instructions-of cs fs ss)
       within = omega (arith, length-instructions-of cs fs ss e f)
 
-      kept : {r : Size} → r₀ ≡ r → Sizes (instruction-slots (m + k) (getD (instructions-of cs fs ss) k no-instruction)) r
+      kept : {r : Size} → r₀ ≡ r → Sizes (instruction-slots F (m + k) (getD (instructions-of cs fs ss) k no-instruction)) r
       kept q =
-          subst₂ (λ i r. Sizes (instruction-slots (m + k) i) r)
+          subst₂ (λ i r. Sizes (instruction-slots F (m + k) i) r)
           (ap₃ raw (read-back cs k sc) (read-back fs k sf) (read-back ss k st)
           ∙ sym (instruction-at cs fs ss k l (omega arith) (omega arith)))
           q z
 
       few : {n : ℕ} → r₀ ≡ Bits n → n ≤ 66
-      few q = instruction-few (m + k) _ _ _ (kept q)
+      few q = instruction-few F (m + k) _ _ _ (kept q)
 
       pub program-stops : {r : Refusal} → r₀ ≡ Refused r
-          → Sizes (several-slots instruction-slots m (instructions-of cs fs ss)) (Refused r)
+          → Sizes (several-slots (instruction-slots F) m (instructions-of cs fs ss)) (Refused r)
       program-stops q =
-          summing-stops instruction-slots m (instructions-of cs fs ss) no-instruction (g .summed) within (kept q)
+          summing-stops (instruction-slots F) m (instructions-of cs fs ss) no-instruction (g .summed) within (kept q)
 
       pub program-near : {n : ℕ} → r₀ ≡ Bits n → length cs ≤ 512 → bits + n < 2 ^ 64
       program-near {n} q h = omega (arith, g .summed .few, few q)
 
-      pub program-more : {n : ℕ} → r₀ ≡ Bits n → Program m cs fs ss (k + 1) (bits + n)
+      pub program-more : {n : ℕ} → r₀ ≡ Bits n → Program F m cs fs ss (k + 1) (bits + n)
       program-more {n} q =
           record {
             inside = omega arith;
             summed =
-                summing-more instruction-slots m (instructions-of cs fs ss) no-instruction (g .summed) within (few q)
+                summing-more (instruction-slots F) m (instructions-of cs fs ss) no-instruction (g .summed) within (few q)
                 (kept q);
           }
 

@@ -84,18 +84,18 @@ module _ {k : ℕ} {cs fs ss os : List ℤ} (c : Counts k cs fs ss os) where
   many : length (instructions-of cs fs ss) ≡ length cs
   many = length-instructions-of cs fs ss (c .as-firsts) (c .as-seconds)
 
-  module _ {p₀ : Size} (pr : Sizes (program-slots k (instructions-of cs fs ss)) p₀) where
+  module _ (F : ℕ) {p₀ : Size} (pr : Sizes (program-slots F k (instructions-of cs fs ss)) p₀) where
     abbrev results : List Slot
     results = result-slots (k + length (instructions-of cs fs ss)) os
 
     program-in-turn : {p : Size} → p₀ ≡ p
         → then (size-answer p) (λ y. then (sized results) (λ z. value (y + z)))
-        ≡ sized (body-slots k (instructions-of cs fs ss) os)
+        ≡ sized (body-slots F k (instructions-of cs fs ss) os)
     program-in-turn {p} q =
         ap (λ (a : Answer ℕ). then a (λ y. then (sized results) (λ z. value (y + z)))) (ap size-answer (sym q) ∙ pr .answers)
-        ∙ sym (sized-append (program-slots k (instructions-of cs fs ss)) results)
+        ∙ sym (sized-append (program-slots F k (instructions-of cs fs ss)) results)
 
-    pub program-stops-body : {r : Refusal} → p₀ ≡ Refused r → BodySizes k cs fs ss os p₀
+    pub program-stops-body : {r : Refusal} → p₀ ≡ Refused r → BodySizes F k cs fs ss os p₀
     program-stops-body q =
         record { is = record { answers = ap size-answer q ∙ program-in-turn q }; few = subst BodyFew (sym q) tt }
 
@@ -104,10 +104,10 @@ module _ {k : ℕ} {cs fs ss os : List ℤ} (c : Counts k cs fs ss os) where
       its-results {r} u = subst₂ (λ (n : ℕ) (s : Size). Sizes (result-slots (k + n) os) s) (sym many) u rs
 
       in-turn-results : {r : Size} → r₀ ≡ r
-          → then (size-answer r) (λ z. value (y + z)) ≡ sized (body-slots k (instructions-of cs fs ss) os)
+          → then (size-answer r) (λ z. value (y + z)) ≡ sized (body-slots F k (instructions-of cs fs ss) os)
       in-turn-results u = ap (λ (a : Answer ℕ). then a (λ z. value (y + z))) (its-results u .answers) ∙ program-in-turn q
 
-      pub results-stop-body : {r : Refusal} → r₀ ≡ Refused r → BodySizes k cs fs ss os r₀
+      pub results-stop-body : {r : Refusal} → r₀ ≡ Refused r → BodySizes F k cs fs ss os r₀
       results-stop-body u =
           record { is = record { answers = ap size-answer u ∙ in-turn-results u }; few = subst BodyFew (sym u) tt }
 
@@ -116,8 +116,8 @@ module _ {k : ℕ} {cs fs ss os : List ℤ} (c : Counts k cs fs ss os) where
         few-bits =
             omega (
               arith,
-              sizes-width (program-slots k (instructions-of cs fs ss)) (subst (Sizes _) q pr),
-              program-wide k (instructions-of cs fs ss),
+              sizes-width (program-slots F k (instructions-of cs fs ss)) (subst (Sizes _) q pr),
+              program-wide F k (instructions-of cs fs ss),
               many,
               c .instructions-few,
               sizes-width results (its-results u),
@@ -128,12 +128,12 @@ module _ {k : ℕ} {cs fs ss os : List ℤ} (c : Counts k cs fs ss os) where
         pub body-near : y + z < 2 ^ 64
         body-near = omega (arith, few-bits)
 
-        pub body-fits : BodySizes k cs fs ss os (Bits (y + z))
+        pub body-fits : BodySizes F k cs fs ss os (Bits (y + z))
         body-fits = record { is = record { answers = in-turn-results u }; few = few-bits }
 
 -- ---- the whole
 
-pub near-all : {k : ℕ} {cs fs ss os : List ℤ} {b : Size} {n : ℕ} → BodySizes k cs fs ss os b → b ≡ Bits n → 32 + n < 2 ^ 64
+pub near-all : {F k : ℕ} {cs fs ss os : List ℤ} {b : Size} {n : ℕ} → BodySizes F k cs fs ss os b → b ≡ Bits n → 32 + n < 2 ^ 64
 near-all {n = n} s q = omega (arith, subst BodyFew q (s .few))
 
 module _ (F m : ℤ) (cs fs ss os : List ℤ) (fF : SFits w64 F) (fm : SFits w64 m) {h₀ : Size}
@@ -142,7 +142,7 @@ module _ (F m : ℤ) (cs fs ss os : List ℤ) (fF : SFits w64 F) (fm : SFits w64
   slots = raw-slots (handed F m (parts cs fs ss os))
 
   abbrev body : List Slot
-  body = body-slots (natAbs m) (instructions-of cs fs ss) os
+  body = body-slots (natAbs F) (natAbs m) (instructions-of cs fs ss) os
 
   header : {h : Size} → h₀ ≡ h → Sizes (header-slots F m (counted (length cs) (length fs) (length ss)) (length os)) h
   header {h} e =
@@ -164,18 +164,21 @@ module _ (F m : ℤ) (cs fs ss os : List ℤ) (fF : SFits w64 F) (fm : SFits w64
   header-stops e =
       record { is = record { answers = ap size-answer e ∙ in-turn e }; few = subst FewBits (sym e) tt }
 
-  module _ {x : ℕ} (e : h₀ ≡ Bits x) {k : ℕ} (em : k ≡ natAbs (back m)) where
+  module _ {x : ℕ} (e : h₀ ≡ Bits x) {j k : ℕ} (eF : j ≡ natAbs (back F)) (em : k ≡ natAbs (back m)) where
     inputs-are : k ≡ natAbs m
     inputs-are = em ∙ ap natAbs (toZ-ofZ w64 m fm)
+
+    scale-is : j ≡ natAbs F
+    scale-is = eF ∙ ap natAbs (toZ-ofZ w64 F fF)
 
     pub body-asks : Counts k cs fs ss os
     body-asks = subst (λ (n : ℕ). Counts n cs fs ss os) (sym inputs-are) (header-passes F m cs fs ss os (header e) .0)
 
-    module _ {b₀ : Size} (bs : BodySizes k cs fs ss os b₀) where
+    module _ {b₀ : Size} (bs : BodySizes j k cs fs ss os b₀) where
       body-in-turn : {b : Size} → b₀ ≡ b → then (size-answer b) (λ y. value (32 + y)) ≡ sized slots
       body-in-turn {b} q =
           ap (λ (a : Answer ℕ). then a (λ y. value (32 + y)))
-          (subst₂ (λ (n : ℕ) (s : Size). Sizes (body-slots n (instructions-of cs fs ss) os) s) inputs-are q (bs .is) .answers)
+          (subst₂ (λ (i n : ℕ). Sizes (body-slots i n (instructions-of cs fs ss) os) b) scale-is inputs-are (subst (Sizes _) q (bs .is)) .answers)
           ∙ ap (λ (x : ℕ). then (sized body) (λ y. value (x + y))) (sym (header-passes F m cs fs ss os (header e) .1))
           ∙ in-turn e
 

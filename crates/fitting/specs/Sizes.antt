@@ -58,9 +58,9 @@ pub record FormulaSizes (given : RawFormula) (r : Size) : Type 0 where
   pub few : FewBits r
 
 -- what follows the header
-abbrev pub body-slots : ℕ → List RawInstruction → List ℤ → List Slot
-body-slots m rs os = program-slots m rs ++ result-slots (m + length rs) os
+abbrev pub body-slots : ℕ → ℕ → List RawInstruction → List ℤ → List Slot
+body-slots F m rs os = program-slots F m rs ++ result-slots (m + length rs) os
 
-pub record BodySizes (m : ℕ) (codes firsts seconds outputs : List ℤ) (r : Size) : Type 0 where
-  pub is : Sizes (body-slots m (instructions-of codes firsts seconds) outputs) r
+pub record BodySizes (F m : ℕ) (codes firsts seconds outputs : List ℤ) (r : Size) : Type 0 where
+  pub is : Sizes (body-slots F m (instructions-of codes firsts seconds) outputs) r
   pub few : BodyFew r

@@ -1,5 +1,6 @@
 // The packer's tests, in the order in which the fields would be written, and how many bits they take.
 ghost use mathlib.Core.Path.{_≡_};
+ghost use mathlib.Core.Bool.{false};
 ghost use Prim.Native.Nat.{_≤_};
 ghost use lib.ListN.{length};
 ghost use Rattle.packing.specs.Raw.{raw, parts, handed, instructions-of};
@@ -38,18 +39,35 @@ fn reaches(centre: i64, margin: i64) -> bool
     magnitude(margin) <= 0x7FFF_FFFF - size
 }
 
-// An instruction that makes value `value`.
-fn instruction_size(code: i64, first: i64, second: i64, value: usize) -> Size
-    ensures { λ r. ⌜ Sizes (instruction-slots value (raw code first second)) r ⌝ }
+// A constant with a margin, a reciprocal or no code.
+fn beyond_size(code: i64, first: i64, second: i64, scale: u64, value: usize) -> Size
+    requires { ⌜ is-below 5 code ≡ false ⌝ }
+    ensures { λ r. ⌜ Sizes (instruction-slots scale value (raw code first second)) r ⌝ }
 {
-    if !below(code, 5) {
-        if !below(code, 6) {
-            return Size::Refused(Refusal::Code);
-        }
+    if below(code, 6) {
         if reaches(first, second) {
             return Size::Bits(66);
         }
         return Size::Refused(Refusal::Constant);
+    }
+    if !below(code, 7) {
+        return Size::Refused(Refusal::Code);
+    }
+    if 16 < scale {
+        return Size::Refused(Refusal::ReciprocalScale);
+    }
+    if below(first, value as u64) {
+        return Size::Bits(13);
+    }
+    Size::Refused(Refusal::Operand)
+}
+
+// An instruction that makes value `value` of a formula of that scale.
+fn instruction_size(code: i64, first: i64, second: i64, scale: u64, value: usize) -> Size
+    ensures { λ r. ⌜ Sizes (instruction-slots scale value (raw code first second)) r ⌝ }
+{
+    if !below(code, 5) {
+        return beyond_size(code, first, second, scale, value);
     }
     let c = magnitude(code);
     if c == 0 {
@@ -71,16 +89,16 @@ fn instruction_size(code: i64, first: i64, second: i64, value: usize) -> Size
 }
 
 // All instructions, the first of which makes value `first`.
-fn program_size(codes: &[i64], firsts: &[i64], seconds: &[i64], inputs: usize) -> Size
+fn program_size(codes: &[i64], firsts: &[i64], seconds: &[i64], scale: u64, inputs: usize) -> Size
     requires { ⌜ (length (now codes) ≡ length (now firsts)) × (length (now codes) ≡ length (now seconds))
         × (length (now codes) ≤ 512) × (inputs ≤ 16) ⌝ }
-    ensures { λ r. ⌜ Sizes (program-slots inputs
+    ensures { λ r. ⌜ Sizes (program-slots scale inputs
         (instructions-of (now (codes .entry)) (now (firsts .entry)) (now (seconds .entry)))) r ⌝ }
 {
     let mut bits = 0;
     let mut k = 0;
     while k < codes.len() {
-        match instruction_size(codes[k], firsts[k], seconds[k], inputs + k) {
+        match instruction_size(codes[k], firsts[k], seconds[k], scale, inputs + k) {
             Size::Refused(r) => return Size::Refused(r),
             Size::Bits(n) => {
                 bits = bits + n;
@@ -142,12 +160,19 @@ fn header_size(
 }
 
 // What follows a header.
-fn body_size(inputs: usize, codes: &[i64], firsts: &[i64], seconds: &[i64], outputs: &[i64]) -> Size
+fn body_size(
+    scale: u64,
+    inputs: usize,
+    codes: &[i64],
+    firsts: &[i64],
+    seconds: &[i64],
+    outputs: &[i64],
+) -> Size
     requires { ⌜ Counts inputs (now codes) (now firsts) (now seconds) (now outputs) ⌝ }
-    ensures { λ r. ⌜ BodySizes inputs (now (codes .entry)) (now (firsts .entry)) (now (seconds .entry))
+    ensures { λ r. ⌜ BodySizes scale inputs (now (codes .entry)) (now (firsts .entry)) (now (seconds .entry))
         (now (outputs .entry)) r ⌝ }
 {
-    let program = program_size(codes, firsts, seconds, inputs);
+    let program = program_size(codes, firsts, seconds, scale, inputs);
     let Size::Bits(n) = program else {
         return program;
     };
@@ -181,7 +206,14 @@ pub fn formula_size(
     let Size::Bits(_) = header else {
         return header;
     };
-    let body = body_size(magnitude(inputs) as usize, codes, firsts, seconds, outputs);
+    let body = body_size(
+        magnitude(scale),
+        magnitude(inputs) as usize,
+        codes,
+        firsts,
+        seconds,
+        outputs,
+    );
     let Size::Bits(n) = body else {
         return body;
     };

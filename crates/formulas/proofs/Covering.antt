@@ -16,7 +16,7 @@ use Rattle.rules.specs.Lists.{centres-of, no-ball}
 use Rattle.rules.specs.Matryoshki.{matryoshka-rule}
 use Rattle.rules.proofs.Cover.{matryoshka-covers}
 use Rattle.formulas.specs.declared.Instruction.{Instruction}
-use Rattle.formulas.specs.declared.Instruction.the-variants.{Constant, Negate, Add, Subtract, Multiply, Coefficient}
+use Rattle.formulas.specs.declared.Instruction.the-variants.{Constant, Negate, Add, Subtract, Multiply, Coefficient, Reciprocal}
 use Rattle.formulas.specs.Formula.{Smaller}
 use Rattle.lists.specs.Each.{Each, none, one}
 use Rattle.formulas.specs.Run.{finished, with-values, onward, run}
@@ -37,6 +37,7 @@ with-centres bs (Add i j) = ap₂ Operation.add (centre-at bs i) (centre-at bs j
 with-centres bs (Subtract i j) = ap₂ Operation.subtract (centre-at bs i) (centre-at bs j)
 with-centres bs (Multiply i j) = ap₂ Operation.multiply (centre-at bs i) (centre-at bs j)
 with-centres bs (Coefficient c r) = refl
+with-centres bs (Reciprocal i) = ap Operation.reciprocal (centre-at bs i)
 
 centres-behind : (bs : List Ball) (b : Ball) → centres-of (bs ++ b ∷ []) ≡ centres-of bs ++ b .centre ∷ []
 centres-behind [] b = refl
@@ -49,7 +50,7 @@ pub record CoveredRun (F : ℕ) (is : List Instruction) (bs : List Ball) (ns : L
   pub covered : Rel Covers ns made
   pub plain-finishes : run (plain-rule F) (pos 0) is (centres-of bs) ≡ finished (centres-of made)
 
-pub run-covers : (F : ℕ) (d : Matryoshka) (is : List Instruction) {ms ns : List Matryoshka} {bs : List Ball} → Rel Covers ms bs → Each Smaller (length ms) is
+pub run-covers : (F : ℕ) (d : Matryoshka) (is : List Instruction) {ms ns : List Matryoshka} {bs : List Ball} → Rel Covers ms bs → Each (Smaller F) (length ms) is
     → run (matryoshka-rule F) d is ms ≡ finished ns → CoveredRun F is bs ns
 run-covers F d [] {bs} r none e =
     record { made = bs; balls-finish = refl; covered = subst (λ l. Rel Covers l bs) (same-values e) r; plain-finishes = refl }
@@ -70,10 +71,10 @@ run-covers F d (i ∷ is) {ms} {ns} {bs} r (one s ss) e =
         }
 
     by-rule : (a : Answer Matryoshka) → matryoshka-rule F (with-values d ms i) ≡ a → onward ms (λ l. run (matryoshka-rule F) d is l) a ≡ finished ns
-        → ((m : Matryoshka) (b : Ball) → Rel Covers (ms ++ m ∷ []) (bs ++ b ∷ []) → Each Smaller (length (ms ++ m ∷ [])) is → run (matryoshka-rule F) d is (ms ++ m ∷ []) ≡ finished ns → CoveredRun F is (bs ++ b ∷ []) ns)
+        → ((m : Matryoshka) (b : Ball) → Rel Covers (ms ++ m ∷ []) (bs ++ b ∷ []) → Each (Smaller F) (length (ms ++ m ∷ [])) is → run (matryoshka-rule F) d is (ms ++ m ∷ []) ≡ finished ns → CoveredRun F is (bs ++ b ∷ []) ns)
         → CoveredRun F (i ∷ is) bs ns
     by-rule (value m) k e rec =
-        let c = matryoshka-covers F (with-values-alike d no-ball r i s) k in
+        let c = matryoshka-covers F (with-values-alike F d no-ball r i s) k in
         onwards (c .made) (c .accepted) (c .bare)
-        (rec m (c .made) (rel-behind r (c .covers)) (subst (λ n. Each Smaller n is) (one-longer ms m) ss) e)
+        (rec m (c .made) (rel-behind r (c .covers)) (subst (λ n. Each (Smaller F) n is) (one-longer ms m) ss) e)
     by-rule (refused n) k e rec = absurd (never-stopped e)

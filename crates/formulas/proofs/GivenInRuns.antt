@@ -1,4 +1,4 @@
--- A job of any kind gives refusals 10, 11 and 13 to 15 exactly when the documents say, and no number beyond. Assumes nothing.
+-- A job of any kind gives refusals 10, 11, 13 to 15 and 17 exactly when the documents say, and no number beyond. Assumes nothing.
 use mathlib.Core.Path.{_≡_, refl, sym, _∙_, ap, subst, subst₂}
 use mathlib.Core.Bool.{Bool, true, false, cond, _&&_}
 use mathlib.Core.List.{List, [], _∷_, _++_}
@@ -7,17 +7,22 @@ use Prim.Native.Nat.{ℕ, _-_, _≤_, _<_}
 use native.Mathlib.Omega.{arith}
 use lib.Dec.{leb}
 use borrow.Author.Tests.{leb-false, lt-leb}
+use lib.IntN.{ℤ, pos, natAbs}
 use lib.ListN.{length}
+use Rattle.whole.proofs.Cases.{never}
 use Rattle.lists.specs.Over.{least}
 use Rattle.lists.proofs.Over.{least-both}
 use Rattle.refusals.specs.Answer.{Answer, value, refused, then}
 use Rattle.refusals.specs.Places.{Where, Placed, refused-at, elsewhere, HasPlace}
+use Rattle.refusals.specs.Refusals.{OfBytes, in-file-order, reciprocal-scale, AtStep, out-of-reach, divided-by-zero}
 use Rattle.refusals.specs.Said.{refuses}
 use Rattle.refusals.proofs.Answers.{no-value, refused-same, then-value, then-refused}
 use Rattle.refusals.proofs.OneReply.{never-both, first-said, place-said}
-use Rattle.rules.specs.Operation.{Operation}
-use Rattle.rules.specs.Steps.{within-reach}
-use Rattle.rules.proofs.Reach.{reach-refuses, reach-refused}
+use Rattle.rules.specs.Operation.{Operation, divides-by-zero}
+use Rattle.rules.specs.Steps.{step-answer}
+use Rattle.rules.specs.Reciprocals.{plain-may-be-zero, ball-may-be-zero, matryoshka-may-be-zero}
+use Rattle.rules.proofs.Zeros.{plain-zero, zero-plain, ball-zero, zero-ball, matryoshka-zero, zero-matryoshka}
+use Rattle.rules.proofs.Reach.{StepRefused, divides, too-far, step-refused, refuses-step}
 use Rattle.formulas.specs.declared.Header.{Header}
 use Rattle.formulas.specs.declared.Instruction.{Instruction}
 use Rattle.formulas.specs.Formula.{Formula, places}
@@ -25,7 +30,7 @@ use Rattle.formulas.specs.Run.{Walk, finished, stopped, with-values, onw
 use Rattle.formulas.specs.Readings.{Reading, judged, readings-tested}
 use Rattle.formulas.specs.Kinds.{Kind, plain-kind, ball-kind, matryoshka-kind, tested}
 use Rattle.formulas.specs.Job.{Started, roomy, if-room, start, walk-ended, started-run, job, said, Lent, lent-job}
-use Rattle.formulas.specs.GivenInRuns.{Terms, plain-terms, ball-terms, matryoshka-terms, Lowest, Read, Passed, OneUnder, NoRoom, work-short, output-short, OutOfReach, Counted, GivenInRun, thirteen, fourteen, fifteen, ten, eleven, JobNumber}
+use Rattle.formulas.specs.GivenInRuns.{Terms, plain-terms, ball-terms, matryoshka-terms, Lowest, Read, Passed, OneUnder, NoRoom, work-short, output-short, Comes, coming, DividesBy, reciprocal-of, Counted, GivenInRun, thirteen, fourteen, fifteen, ten, eleven, seventeen, JobNumber}
 use Rattle.formulas.proofs.Judging.{Judgement, good, negative, too-large, judgement, not-bad, judged-good, good-judged, negative-judged, large-judged}
 use Rattle.formulas.proofs.Judging.{RefusedAt, refused-lowest, each-counted, none-other, miscounted, counted-tested, Unfit, other-count, bad-reading}
 use Rattle.formulas.proofs.Fitting.{not-let-in, not-let-in-number}
@@ -33,11 +38,19 @@ use Rattle.formulas.proofs.Lawful.{Lawful}
 use Rattle.formulas.proofs.Walks.{never-stopped, same-values, run-long}
 use Rattle.formulas.proofs.Jobs.{Starts, starts, start-is, job-refused, job-started}
 
--- how a kind refuses: a step by its reach, lists by the shortest of them
+-- how a kind refuses: a step by what it divides by and by its reach, lists by the shortest of them
 pub record Refusing (K : Kind) (T : Terms K) : Type 0 where
-  pub steps : (F : ℕ) (o : Operation (K .Value)) → K .rule F o ≡ within-reach (T .reach) (T .result F o)
+  pub may-be-zero : K .Value → Bool
+  pub tested-zero : (v : K .Value) → may-be-zero v ≡ true → T .MayBeZero v
+  pub zero-tested : (v : K .Value) → T .MayBeZero v → may-be-zero v ≡ true
+  pub steps : (F : ℕ) (o : Operation (K .Value)) → K .rule F o ≡ step-answer may-be-zero (T .reach) o (T .result F o)
   pub room-under : (n : ℕ) (l : K .Lists) → K .room l < n → OneUnder n (T .lengths l)
   pub under-room : (n : ℕ) (l : K .Lists) → OneUnder n (T .lengths l) → K .room l < n
+
+-- only 0 has no size
+no-size : (a : ℤ) → natAbs a ≡ 0 → a ≡ pos 0
+no-size (pos n) e = ap pos e
+no-size (ℤ.negsuc n) e = absurd (omega arith)
 
 -- one list, and one more
 alone : {n k : ℕ} → (k < n) ⊎ ⊥ → k < n
@@ -60,6 +73,9 @@ module _ (n a b : ℕ) where
 pub plain-refusing : Refusing plain-kind plain-terms
 plain-refusing =
     record {
+      may-be-zero = plain-may-be-zero;
+      tested-zero = λ a e. no-size a (plain-zero a e);
+      zero-tested = λ a e. zero-plain a (ap natAbs e);
       steps = λ F o. refl;
       room-under = λ n l u. inl u;
       under-room = λ n l u. alone u;
@@ -68,6 +84,9 @@ plain-refusing =
 pub ball-refusing : Refusing ball-kind ball-terms
 ball-refusing =
     record {
+      may-be-zero = ball-may-be-zero;
+      tested-zero = ball-zero;
+      zero-tested = zero-ball;
       steps = λ F o. refl;
       room-under = λ n l u. least-under n (length (l .centres)) (length (l .margins)) (λ v. inl v) u;
       under-room = λ n l u. under-least n (length (l .centres)) (length (l .margins)) (λ v. alone v) u;
@@ -76,6 +95,9 @@ ball-refusing =
 pub matryoshka-refusing : Refusing matryoshka-kind matryoshka-terms
 matryoshka-refusing =
     record {
+      may-be-zero = matryoshka-may-be-zero;
+      tested-zero = matryoshka-zero;
+      zero-tested = zero-matryoshka;
       steps = λ F o. refl;
       room-under = λ n l u.
           let s = length (l .strays) in
@@ -201,10 +223,15 @@ module _ {K : Kind} {T : Terms K} (law : Lawful K) (refusing : Refusing K T) (a 
           by-bytes (u ∙ ap (λ (v : Where). refused (v .number)) same) (ap (λ (v : Where). v .place) same)
       by-formula (value f) u e = by-tested f u (tested K (f .header .inputs) given) refl e
 
-  -- or at a step, by 11
+  -- why a kind's rule refuses an instruction
+  abbrev Refuses : ℕ → Operation (K .Value) → ℕ → Type 0
+  Refuses F o n = StepRefused (refusing .may-be-zero) (T .reach) o (T .result F o) n
+
+  -- or at a step, by 17 or 11
   data Why (n k : ℕ) : Type 0 where
     early : NotStarted (record { number = n; place = k }) → Why n k
-    at-step : (st : Started K) → Starts K a given work output st → OutOfReach K T (st .formula) (st .values) k → 11 ≡ n → Why n k
+    at-step : (st : Started K) → Starts K a given work output st → (c : Comes K (st .formula) (st .values) k)
+        → Refuses (st .formula .header .scale) (coming c) n → Why n k
 
   why : {n k : ℕ} → said (job K a given work output) ≡ refuses n k → Why n k
   why {n} {k} e = by-start (start K a given work output) refl
@@ -215,7 +242,8 @@ module _ {K : Kind} {T : Terms K} (law : Lawful K) (refusing : Refusing K T) (a 
       of-walk st s (stopped m ws) u e =
           let F = st .formula .header .scale in
           let x = stop-of (K .rule F) (K .nothing) (st .formula .program) (st .values) u in
-          let r = reach-refused (T .reach) _ (sym (refusing .steps F _) ∙ x .refuses-it) in
+          let o = with-values (K .nothing) ws (x .instruction) in
+          let r = step-refused (refusing .may-be-zero) (T .reach) o (T .result F o) (sym (refusing .steps F o) ∙ x .refuses-it) in
           let long = run-long (K .rule F) (K .nothing) (x .earlier) (st .values) (x .carried-out) in
           let many = law .tested-values (st .formula .header .inputs) given (s .fits) .many in
           let place : length (x .earlier) ≡ k = omega (arith, long, many, ap place-said e) in
@@ -228,8 +256,7 @@ module _ {K : Kind} {T : Terms K} (law : Lawful K) (refusing : Refusing K T) (a 
             number = place;
             made = ws;
             carried-out = x .carried-out;
-            too-far = r .1;
-          }) (sym (r .0) ∙ ap first-said e)
+          }) (subst (Refuses F o) (ap first-said e) r)
 
       by-start : (b : Placed (Started K)) → start K a given work output ≡ b → Why n k
       by-start (refused w) u =
@@ -238,25 +265,37 @@ module _ {K : Kind} {T : Terms K} (law : Lawful K) (refusing : Refusing K T) (a 
       by-start (value st) u =
           of-walk st (starts K a given work output u) (started-run K st) refl (sym (ap said (job-started K a given work output u)) ∙ e)
 
-  -- where reading gives only 1 to 8
-  pub job-last : {n k : ℕ} → ((m : ℕ) → a ≡ refused m → m ≤ 8) → said (job K a given work output) ≡ refuses n k → JobNumber n
+  -- where reading gives only its own numbers
+  pub job-last : {n k : ℕ} → ((m : ℕ) → a ≡ refused m → OfBytes m) → said (job K a given work output) ≡ refuses n k → JobNumber n
   job-last {n} {k} few e = by-why (why e)
     where
-      numbered : (n ≡ 9 → ⊥) → (n ≡ 12 → ⊥) → n ≤ 15 → JobNumber n
+      numbered : {n : ℕ} → (n ≡ 9 → ⊥) → (n ≡ 12 → ⊥) → n ≤ 17 → JobNumber n
       numbered p q r = record { not-nine = p; not-twelve = q; most = r }
 
+      of-bytes : {n : ℕ} → OfBytes n → JobNumber n
+      of-bytes (in-file-order l m) = numbered (λ z. omega arith) (λ z. omega arith) (omega arith)
+      of-bytes reciprocal-scale = numbered (λ z. omega arith) (λ z. omega arith) (omega arith)
+
+      of-step : {F n : ℕ} {o : Operation (K .Value)} → Refuses F o n → JobNumber n
+      of-step (divides z) = numbered (λ z. omega arith) (λ z. omega arith) (omega arith)
+      of-step (too-far z l) = numbered (λ z. omega arith) (λ z. omega arith) (omega arith)
+
       by-why : Why n k → JobNumber n
-      by-why (early (by-bytes u z)) = let l = few n u in numbered (λ z. omega arith) (λ z. omega arith) (omega arith)
+      by-why (early (by-bytes u z)) = of-bytes (few n u)
       by-why (early (by-readings r u)) =
           let t = not-let-in-number K (r .formula .header .inputs) given u in
           numbered (λ z. omega (arith, t .from-13)) (λ z. omega (arith, t .from-13)) (omega (arith, t .to-15))
       by-why (early (by-room p s t z)) = let i : 10 ≡ n = t in numbered (λ z. omega arith) (λ z. omega arith) (omega arith)
-      by-why (at-step st s o t) = numbered (λ z. omega arith) (λ z. omega arith) (omega arith)
+      by-why (at-step st s c r) = of-step r
 
   -- "Every other refusal has place 0."
   pub every-other-place : {n k : ℕ} → said (job K a given work output) ≡ refuses n k → (HasPlace n → ⊥) → k ≡ 0
   every-other-place {n} {k} e d = by-why (why e)
     where
+      of-step : {F n : ℕ} {o : Operation (K .Value)} → Refuses F o n → AtStep n
+      of-step (divides z) = divided-by-zero
+      of-step (too-far z l) = out-of-reach
+
       by-judgement : {b : Answer (Unit {0})} {g : Reading} → Judgement g b → b ≡ refused n → k ≡ 0
       by-judgement (good f u) r = absurd (no-value (sym (sym u ∙ r)))
       by-judgement (negative m u) r = absurd (d (subst HasPlace (refused-same (sym u ∙ r)) HasPlace.negative))
@@ -270,7 +309,7 @@ module _ {K : Kind} {T : Terms K} (law : Lawful K) (refusing : Refusing K T) (a 
       by-why (early (by-bytes u z)) = sym z
       by-why (early (by-readings r u)) = by-reading r (not-let-in K (r .formula .header .inputs) given u)
       by-why (early (by-room p s t z)) = sym z
-      by-why (at-step st s o t) = absurd (d (subst HasPlace t HasPlace.instruction))
+      by-why (at-step st s c r) = absurd (d (HasPlace.instruction (of-step r)))
 
   without-room : (p : Passed K a given) → Short (p .formula .header) work output → start K a given work output ≡ refused-at 10 0
   unfolding start
@@ -301,23 +340,24 @@ module _ {K : Kind} {T : Terms K} (law : Lawful K) (refusing : Refusing K T) (a 
       } in
       misread r (counted-tested m (K .brought given) (each-counted m (K .brought given .counts) c) ∙ refused-lowest g 0 m there)
 
-  stopped-run : (p : Passed K a given) {k : ℕ} → (o : OutOfReach K T (p .formula) (p .values) k)
-      → started-run K (begun (p .formula) (p .values)) ≡ stopped 11 (o .made)
-  stopped-run p o =
+  stopped-run : (p : Passed K a given) {k n : ℕ} → (c : Comes K (p .formula) (p .values) k) → Refuses (p .formula .header .scale) (coming c) n
+      → started-run K (begun (p .formula) (p .values)) ≡ stopped n (c .made)
+  stopped-run p c r =
       let F = p .formula .header .scale in
-      ap (λ is. run (K .rule F) (K .nothing) is (p .values)) (o .in-order)
-      ∙ stop-there (K .rule F) (K .nothing) (o .earlier) (o .instruction) (o .later) (p .values) (o .carried-out)
-      (refusing .steps F _ ∙ reach-refuses (T .reach) _ (o .too-far))
+      let o = coming c in
+      ap (λ is. run (K .rule F) (K .nothing) is (p .values)) (c .in-order)
+      ∙ stop-there (K .rule F) (K .nothing) (c .earlier) (c .instruction) (c .later) (p .values) (c .carried-out)
+      (refusing .steps F o ∙ refuses-step (refusing .may-be-zero) (T .reach) o (T .result F o) r)
 
-  at-step-refused : (p : Passed K a given) → places (p .formula .header) ≤ work → p .formula .header .outputs ≤ output → {k : ℕ}
-      → OutOfReach K T (p .formula) (p .values) k → said (job K a given work output) ≡ refuses 11 k
-  at-step-refused p w l {k} o =
+  at-step-refused : (p : Passed K a given) → places (p .formula .header) ≤ work → p .formula .header .outputs ≤ output → {k n : ℕ}
+      → (c : Comes K (p .formula) (p .values) k) → Refuses (p .formula .header .scale) (coming c) n → said (job K a given work output) ≡ refuses n k
+  at-step-refused p w l {k} {n} c r =
       let st = start-is K a given work output (record { means = p .means; fits = p .fits; work-room = w; output-room = l }) in
-      let long = run-long (K .rule (p .formula .header .scale)) (K .nothing) (o .earlier) (p .values) (o .carried-out) in
+      let long = run-long (K .rule (p .formula .header .scale)) (K .nothing) (c .earlier) (p .values) (c .carried-out) in
       let many = law .tested-values (p .formula .header .inputs) given (p .fits) .many in
-      let place : length (o .made) - p .formula .header .inputs ≡ k = omega (arith, long, many, o .number) in
+      let place : length (c .made) - p .formula .header .inputs ≡ k = omega (arith, long, many, c .number) in
       ap said (job-started K a given work output st)
-      ∙ ap (λ w. said (walk-ended (K .nothing) (p .formula) w)) (stopped-run p o) ∙ ap (refuses 11) place
+      ∙ ap (λ w. said (walk-ended (K .nothing) (p .formula) w)) (stopped-run p c r) ∙ ap (refuses n) place
 
 -- ---- each refusal, of the lent lists
 
@@ -328,6 +368,29 @@ module _ {K : Kind} {T : Terms K} (law : Lawful K) (refusing : Refusing K T) (a 
 
   abbrev output : ℕ
   output = K .room (lent .output)
+
+  -- "17 .. if": the test, and the words
+  there-zero : (o : Operation (K .Value)) → divides-by-zero (refusing .may-be-zero) o ≡ true → DividesBy (T .MayBeZero) o
+  there-zero (Operation.constant c) e = never (sym e)
+  there-zero (Operation.negate v) e = never (sym e)
+  there-zero (Operation.add v w) e = never (sym e)
+  there-zero (Operation.subtract v w) e = never (sym e)
+  there-zero (Operation.multiply v w) e = never (sym e)
+  there-zero (Operation.coefficient c r) e = never (sym e)
+  there-zero (Operation.reciprocal v) e = reciprocal-of (refusing .tested-zero v e)
+
+  zero-there : {o : Operation (K .Value)} → DividesBy (T .MayBeZero) o → divides-by-zero (refusing .may-be-zero) o ≡ true
+  zero-there (reciprocal-of {a = v} z) = refusing .zero-tested v z
+
+  zero-none : {o : Operation (K .Value)} → divides-by-zero (refusing .may-be-zero) o ≡ false → DividesBy (T .MayBeZero) o → ⊥
+  zero-none e z = never (sym (zero-there z) ∙ e)
+
+  no-zero : (o : Operation (K .Value)) → (DividesBy (T .MayBeZero) o → ⊥) → divides-by-zero (refusing .may-be-zero) o ≡ false
+  no-zero o d = by-test (divides-by-zero (refusing .may-be-zero) o) refl
+    where
+      by-test : (t : Bool) → divides-by-zero (refusing .may-be-zero) o ≡ t → divides-by-zero (refusing .may-be-zero) o ≡ false
+      by-test true u = absurd (d (there-zero o u))
+      by-test false u = u
 
   has-short : {h : Header} → NoRoom K T h lent → Short h work output
   has-short {h} (work-short u) = inl (refusing .under-room (places h) (lent .work) u)
@@ -352,14 +415,17 @@ module _ {K : Kind} {T : Terms K} (law : Lawful K) (refusing : Refusing K T) (a 
       bad-at law refusing a given work output r c low (large-judged (K .brought given .reading-at k) d l)
   given-in-run-refused (ten p r) =
       ap said (job-refused K a given work output (without-room law refusing a given work output p (has-short r)))
-  given-in-run-refused (eleven p d o) =
+  given-in-run-refused (eleven p d c z l) =
       let r = long-enough d in
-      at-step-refused law refusing a given work output p (r .0) (r .1) o
+      at-step-refused law refusing a given work output p (r .0) (r .1) c (too-far (no-zero (coming c) z) l)
+  given-in-run-refused (seventeen p d c z) =
+      let r = long-enough d in
+      at-step-refused law refusing a given work output p (r .0) (r .1) c (divides (zero-there z))
 
-  -- where reading gives only 1 to 8
-  pub refused-given-in-run : {n k : ℕ} → ((m : ℕ) → a ≡ refused m → m ≤ 8) → 9 ≤ n
+  -- where reading gives only its own numbers
+  pub refused-given-in-run : {n k : ℕ} → ((m : ℕ) → a ≡ refused m → OfBytes m) → (OfBytes n → ⊥)
       → said (lent-job K a given lent) ≡ refuses n k → GivenInRun K T a given lent n k
-  refused-given-in-run {n} {k} few l e = by-why (why law refusing a given work output e)
+  refused-given-in-run {n} {k} few other e = by-why (why law refusing a given work output e)
     where
       both-short : (h : Header) → places h ≤ work → h .outputs ≤ output → Short h work output → ⊥
       both-short h p q (inl l) = omega arith
@@ -386,11 +452,16 @@ module _ {K : Kind} {T : Terms K} (law : Lawful K) (refusing : Refusing K T) (a 
           by-judgement (too-large s b u) =
               subst (λ (m : ℕ). GivenInRun K T a given lent m k) (refused-same (sym u ∙ x .refuses)) (fifteen r counted low s b)
 
+      of-step : (p : Passed K a given) → (NoRoom K T (p .formula .header) lent → ⊥) → (c : Comes K (p .formula) (p .values) k) {m : ℕ}
+          → StepRefused (refusing .may-be-zero) (T .reach) (coming c) (T .result (p .formula .header .scale) (coming c)) m
+          → GivenInRun K T a given lent m k
+      of-step p d c (divides z) = seventeen p d c (there-zero (coming c) z)
+      of-step p d c (too-far z l) = eleven p d c (zero-none z) l
+
       by-why : Why law refusing a given work output n k → GivenInRun K T a given lent n k
-      by-why (early (by-bytes u z)) = absurd (omega (arith, few n u))
+      by-why (early (by-bytes u z)) = absurd (other (few n u))
       by-why (early (by-readings r u)) = by-reading r (not-let-in K (r .formula .header .inputs) given u)
       by-why (early (by-room p s t z)) = subst₂ (GivenInRun K T a given lent) t z (ten p (no-room s))
-      by-why (at-step st s o t) =
-          let p : Passed K a given = record { formula = st .formula; means = s .means; values = st .values; fits = s .fits } in
-          subst (λ (m : ℕ). GivenInRun K T a given lent m k) t
-          (eleven p (λ r. both-short (st .formula .header) (s .work-room) (s .output-room) (has-short r)) o)
+      by-why (at-step st s c r) =
+          of-step (record { formula = st .formula; means = s .means; values = st .values; fits = s .fits })
+          (λ t. both-short (st .formula .header) (s .work-room) (s .output-room) (has-short t)) c r

@@ -11,7 +11,7 @@ use Rattle.whole.proofs.Cases.{both}
 use Rattle.refusals.specs.declared.Refusal.{Refusal}
 use Rattle.refusals.specs.declared.Reply.{Reply}
 use Rattle.refusals.specs.declared.Reply.the-variants.{Refused}
-use Rattle.refusals.specs.Refusals.{refusal-number, AtStep}
+use Rattle.refusals.specs.Refusals.{refusal-number, AtStep, out-of-reach, divided-by-zero}
 use Rattle.refusals.specs.Answer.{Answer, value, refused, then}
 use Rattle.refusals.specs.Places.{Where, Placed, refused-at, elsewhere, refuse-at}
 use Rattle.refusals.specs.Said.{answered, refuses, reply-said}
@@ -168,6 +168,11 @@ refused-outputs (refused-first n k) e = refl
 refused-outputs (stopped-at k n vs) e = refl
 refused-outputs (done vs os) e = absurd (never-both (sym e))
 
+-- a step's refusal has a number from 1 on
+step-numbered : {n : ℕ} → AtStep n → 1 ≤ n
+step-numbered out-of-reach = omega arith
+step-numbered divided-by-zero = omega arith
+
 -- a job's refusal has a number from 1 on where its formula's has
 module _ {K : Kind} (law : Lawful K) (a : Answer Formula) (given : K .Readings) (work output : ℕ) (numbered : (m : ℕ) → a ≡ refused m → 1 ≤ m) where
   start-numbered : {w : Where} → start K a given work output ≡ refused w → 1 ≤ w .number
@@ -206,7 +211,7 @@ module _ {K : Kind} (law : Lawful K) (a : Answer Formula) (given : K .Readings) 
 
       by-job : (j : Result (K .Value)) → job K a given work output ≡ j → refuses n k ≡ said j → 1 ≤ n
       by-job (refused-first m j) u e = omega (arith, start-numbered (first-refused (start K a given work output) u), ap first-said e)
-      by-job (stopped-at i m vs) u e = omega (arith, stopped-at-step law a given work output u, ap first-said e)
+      by-job (stopped-at i m vs) u e = omega (arith, step-numbered (stopped-at-step law a given work output u), ap first-said e)
       by-job (done vs os) u e = absurd (never-both (sym e))
 
 -- what a refusal leaves
@@ -229,5 +234,5 @@ module _ {K : Kind} (law : Lawful K) {a : Answer Formula} {given : K .Readings} 
       by-job : (j : Result (K .Value)) → lent-job K a given old ≡ j → refuses (refusal-number q) k ≡ said j → work-of j ≡ []
       by-job (refused-first n i) u e = refl
       by-job (stopped-at i n vs) u e =
-          absurd (l (ap first-said e ∙ stopped-at-step law a given (K .room (old .work)) (K .room (old .output)) u))
+          absurd (l (subst AtStep (sym (ap first-said e)) (stopped-at-step law a given (K .room (old .work)) (K .room (old .output)) u)))
       by-job (done vs os) u e = absurd (never-both (sym e))

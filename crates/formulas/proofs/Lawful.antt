@@ -14,10 +14,11 @@ use Rattle.refusals.specs.Answer.{value, refused}
 use Rattle.rules.specs.Operation.{Operation}
 use Rattle.rules.specs.Lists.{BallLists, MatryoshkaLists}
 use Rattle.rules.specs.Values.{plain-reach, ball-reach, matryoshka-reach}
+use Rattle.rules.specs.Reciprocals.{plain-may-be-zero, ball-may-be-zero, matryoshka-may-be-zero}
 use Rattle.rules.specs.Plain.{plain-result}
 use Rattle.rules.specs.Balls.{ball-result}
 use Rattle.rules.specs.Matryoshki.{matryoshka-result}
-use Rattle.rules.proofs.Reach.{reach-refused, plain-legal, ball-legal, matryoshka-legal}
+use Rattle.rules.proofs.Reach.{step-numbers, plain-legal, ball-legal, matryoshka-legal}
 use Rattle.rules.proofs.Lists.{balls-many, balls-start, balls-one, balls-front, balls-over, centres-as-long, margins-as-long}
 use Rattle.rules.proofs.Lists.{matryoshki-many, matryoshki-start, matryoshki-one, matryoshki-front, matryoshki-over, middles-as-long, strays-as-long, static-as-long}
 use Rattle.formulas.specs.Kinds.{Kind, plain-kind, ball-kind, matryoshka-kind, tested}
@@ -45,7 +46,7 @@ pub plain-lawful : Lawful plain-kind
 plain-lawful =
     record {
       rule-legal = plain-legal;
-      rule-refused = λ F o e. reach-refused plain-reach (plain-result F o) e .0;
+      rule-refused = λ F o e. step-numbers plain-may-be-zero plain-reach o (plain-result F o) e;
       tested-values = λ m g e. let t = let-in plain-kind m g e in let f = plain-fit g (t .0) in
           record { many = ap length (sym (t .1)) ∙ f .many; legal = subst (All _) (t .1) (f .legal) };
       front-many = λ n l p. length-take-le n l p;
@@ -65,7 +66,7 @@ pub ball-lawful : Lawful ball-kind
 ball-lawful =
     record {
       rule-legal = ball-legal;
-      rule-refused = λ F o e. reach-refused ball-reach (ball-result F o) e .0;
+      rule-refused = λ F o e. step-numbers ball-may-be-zero ball-reach o (ball-result F o) e;
       tested-values = λ m g e. let t = let-in ball-kind m g e in let f = ball-fit g (t .0) in
           record { many = ap length (sym (t .1)) ∙ ball-many f; legal = subst (All _) (t .1) (f .legal) };
       front-many = λ n l p. let r = ball-room l p in balls-many n (l .centres) (l .margins) (r .0) (r .1);
@@ -92,7 +93,7 @@ pub matryoshka-lawful : Lawful matryoshka-kind
 matryoshka-lawful =
     record {
       rule-legal = matryoshka-legal;
-      rule-refused = λ F o e. reach-refused matryoshka-reach (matryoshka-result F o) e .0;
+      rule-refused = λ F o e. step-numbers matryoshka-may-be-zero matryoshka-reach o (matryoshka-result F o) e;
       tested-values = λ m g e. let t = let-in matryoshka-kind m g e in let f = domain-fit g (t .0) in
           record { many = ap length (sym (t .1)) ∙ domain-many f; legal = subst (All _) (t .1) (f .legal) };
       front-many = λ n l p. let r = matryoshka-room l p in

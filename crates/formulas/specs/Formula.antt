@@ -6,11 +6,12 @@ use lib.ListN.{length}
 use Rattle.lists.specs.Each.{Each}
 use Rattle.rules.specs.Numbers.{top-scale}
 use Rattle.rules.specs.Values.{Allowed, IsBall}
+use Rattle.rules.specs.Reciprocals.{top-reciprocal-scale}
 use Rattle.rules.specs.Balls.{ball}
 use Rattle.formulas.specs.declared.Header.{Header}
 use Rattle.formulas.specs.declared.Instruction.{Instruction}
 use Rattle.formulas.specs.declared.Instruction.the-variants.{Constant, Negate, Add}
-use Rattle.formulas.specs.declared.Instruction.the-variants.{Subtract, Multiply, Coefficient}
+use Rattle.formulas.specs.declared.Instruction.the-variants.{Subtract, Multiply, Coefficient, Reciprocal}
 
 pub record Formula : Type 0 where
   pub header : Header
@@ -29,18 +30,20 @@ pub record InLimits (h : Header) : Type 0 where
   pub some-output : 1 ≤ h .outputs
   pub outputs-few : h .outputs ≤ 16
 
--- an instruction that makes value v "may name only smaller values"; its constant is allowed, with its margin a ball
-abbrev pub Smaller : ℕ → Instruction → Type 0
-Smaller v (Constant c) = Allowed c
-Smaller v (Negate i) = i < v
-Smaller v (Add i j) = (i < v) × (j < v)
-Smaller v (Subtract i j) = (i < v) × (j < v)
-Smaller v (Multiply i j) = (i < v) × (j < v)
-Smaller v (Coefficient c r) = IsBall (ball c r)
+-- an instruction that makes value v "may name only smaller values"; its constant is allowed, with its margin a ball; a
+-- reciprocal is "for scales 0 to 16"
+abbrev pub Smaller : ℕ → ℕ → Instruction → Type 0
+Smaller F v (Constant c) = Allowed c
+Smaller F v (Negate i) = i < v
+Smaller F v (Add i j) = (i < v) × (j < v)
+Smaller F v (Subtract i j) = (i < v) × (j < v)
+Smaller F v (Multiply i j) = (i < v) × (j < v)
+Smaller F v (Coefficient c r) = IsBall (ball c r)
+Smaller F v (Reciprocal i) = (F ≤ top-reciprocal-scale) × (i < v)
 
 pub record WellFormed (f : Formula) : Type 0 where
   pub limits : InLimits (f .header)
   pub program-long : length (f .program) ≡ f .header .instructions
-  pub operands-smaller : Each Smaller (f .header .inputs) (f .program)
+  pub operands-smaller : Each (Smaller (f .header .scale)) (f .header .inputs) (f .program)
   pub results-long : length (f .results) ≡ f .header .outputs
   pub results-below : Each (λ j o. o < places (f .header)) 0 (f .results)

@@ -2,12 +2,12 @@
 use mathlib.Core.List.{List, [], _∷_, _++_}
 use Prim.Native.Nat.{ℕ, _-_}
 use lib.ListN.{length, getD}
-use Rattle.rules.specs.Operation.{Operation, constant, negate, add, subtract, multiply, coefficient}
+use Rattle.rules.specs.Operation.{Operation, constant, negate, add, subtract, multiply, coefficient, reciprocal}
 use Rattle.refusals.specs.Answer.{Answer, value, refused}
 use Rattle.refusals.specs.Said.{Said, answered, refuses}
 use Rattle.formulas.specs.declared.Instruction.{Instruction}
 use Rattle.formulas.specs.declared.Instruction.the-variants.{Constant, Negate, Add}
-use Rattle.formulas.specs.declared.Instruction.the-variants.{Subtract, Multiply, Coefficient}
+use Rattle.formulas.specs.declared.Instruction.the-variants.{Subtract, Multiply, Coefficient, Reciprocal}
 
 -- an instruction with the values that its operands name; d stands where none is named
 abbrev pub with-values : {A : Type 0} → A → List A → Instruction → Operation A
@@ -17,6 +17,7 @@ with-values d vs (Add i j) = add (getD vs i d) (getD vs j d)
 with-values d vs (Subtract i j) = subtract (getD vs i d) (getD vs j d)
 with-values d vs (Multiply i j) = multiply (getD vs i d) (getD vs j d)
 with-values d vs (Coefficient c r) = coefficient c r
+with-values d vs (Reciprocal i) = reciprocal (getD vs i d)
 
 -- how a walk ended: with all values, or with a refusal's number and the values made before it
 pub data Walk (A : Type 0) : Type 0 where

@@ -17,4 +17,5 @@ pub enum Instruction {
     Multiply(usize, usize),
     // A constant with a margin.
     Coefficient(i64, u64),
+    Reciprocal(usize),
 }

@@ -59,6 +59,10 @@ fn step(
             value_at(middles, strays, margins, b, made),
         ),
         Instruction::Coefficient(c, r) => steps::coefficient(c, r),
+        Instruction::Reciprocal(a) => steps::reciprocal(
+            scale,
+            value_at(middles, strays, margins, a, made),
+        ),
     }
 }
 

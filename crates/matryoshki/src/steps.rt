@@ -3,6 +3,7 @@ ghost use mathlib.Core.Path.{_≡_};
 ghost use Prim.Native.Nat.{_+_, _^_, _≤_, _<_};
 ghost use Rattle.rules.specs.Numbers.{top-scale};
 ghost use Rattle.rules.specs.Values.{IsMatryoshka, matryoshka-reach};
+ghost use Rattle.rules.specs.Reciprocals.{top-reciprocal-scale};
 ghost use Rattle.rules.specs.Operation.{Operation};
 ghost use Rattle.rules.specs.Steps.{AtEveryScale, within-reach, matryoshka-answer};
 ghost use Rattle.rules.specs.Matryoshki.{matryoshka-rule};
@@ -96,4 +97,24 @@ pub fn coefficient(c: i64, r: u64) -> MatryoshkaStep
         stray,
         margin: r,
     })
+}
+
+// Or refusal 17 where a ball that is covered may hold 0.
+pub fn reciprocal(scale: u32, x: Matryoshka) -> MatryoshkaStep
+    requires { ⌜ (scale ≤ top-reciprocal-scale) × IsMatryoshka x ⌝ }
+    ensures { λ r. ⌜ matryoshka-answer r ≡ matryoshka-rule scale (Operation.reciprocal x) ⌝ }
+{
+    let size = whole::magnitude(x.middle);
+    if x.stray + x.margin < size {
+        let inverse = reciprocals::inverse(scale, x.middle);
+        let near = size - x.stray;
+        let stray = reciprocals::spread_over(scale, x.stray, near, size);
+        let margin = reciprocals::spread_over(scale, x.margin, near - x.margin, near);
+        return keep(Matryoshka {
+            middle: inverse.centre,
+            stray,
+            margin: margin + 1,
+        });
+    }
+    MatryoshkaStep::Refused(Refusal::MayBeZero)
 }

@@ -1,4 +1,4 @@
-// An instruction where the bytes may end inside one; it makes value `below`.
+// An instruction where the bytes may end inside one; it makes value `below` of a formula of that scale.
 ghost use mathlib.Core.Path.{_≡_};
 ghost use Prim.Native.Nat.{_+_, _/_, _^_, _≤_};
 ghost use lib.Dec.{ltb};
@@ -54,9 +54,9 @@ fn last_constant(s: &[u8], l: Loaded) -> InstructionRead
     read_constant(s, l)
 }
 
-pub fn read_instruction(s: &[u8], c: Cursor, below: usize) -> InstructionRead
+pub fn read_instruction(s: &[u8], c: Cursor, scale: u32, below: usize) -> InstructionRead
     requires { ⌜ c .at ≤ 2 ^ 30 ⌝ }
-    ensures { λ r. ⌜ Instructed (now (s .entry)) below c r ⌝ }
+    ensures { λ r. ⌜ Instructed (now (s .entry)) scale below c r ⌝ }
 {
     let l = load(s, c);
     let code = l.code();
@@ -67,7 +67,7 @@ pub fn read_instruction(s: &[u8], c: Cursor, below: usize) -> InstructionRead
         return last_constant(s, l);
     }
     if 5 <= code.field {
-        return read_beyond(s, l);
+        return read_beyond(s, l, scale, below);
     }
     if cut_short(s, l, below) {
         return InstructionRead::Refused(Refusal::Ended);

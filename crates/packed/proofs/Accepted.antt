@@ -41,7 +41,7 @@ header-ends bs e = takes-left bs header-takes e
 pub record AcceptedParts (s : List ℕ) (f : Formula) : Type 0 where
   pub instructions : Read (List Instruction)
   pub reads-instructions :
-      read (program (f .header .instructions) (f .header .inputs)) (drop 32 (bits s)) ≡ value instructions
+      read (program (f .header .scale) (f .header .instructions) (f .header .inputs)) (drop 32 (bits s)) ≡ value instructions
   pub is-program : instructions .got ≡ f .program
   pub outputs : Read (List ℕ)
   pub reads-outputs :
@@ -52,7 +52,7 @@ pub record AcceptedParts (s : List ℕ) (f : Formula) : Type 0 where
 -- what follows the header gives a formula with that header
 record BodyParts (h : Header) (bs : List ℕ) (y : Read Formula) : Type 0 where
   is : Read (List Instruction)
-  reads-is : read (program (h .instructions) (h .inputs)) bs ≡ value is
+  reads-is : read (program (h .scale) (h .instructions) (h .inputs)) bs ≡ value is
   os : Read (List ℕ)
   reads-os : read (results (h .outputs) (h .inputs + h .instructions)) (is .left) ≡ value os
   makes : record { header = h; program = is .got; results = os .got } ≡ y .got
@@ -70,7 +70,7 @@ body-parts h bs {y} e =
     record { is = x; reads-is = a .was; os = b .first; reads-os = b .was; makes = g }
   where
     the-program : Form (List Instruction)
-    the-program = program (h .instructions) (h .inputs)
+    the-program = program (h .scale) (h .instructions) (h .inputs)
 
     the-results : Form (List ℕ)
     the-results = results (h .outputs) (h .inputs + h .instructions)

@@ -21,7 +21,7 @@ pub record Formed (s : List ℕ) (h : Header) : Type 0 where
   pub is-header : meant s .header ≡ h
   pub well : WellFormed (meant s)
   pub instructions : Read (List Instruction)
-  pub reads-instructions : read (program (h .instructions) (h .inputs)) (drop 32 (bits s)) ≡ value instructions
+  pub reads-instructions : read (program (h .scale) (h .instructions) (h .inputs)) (drop 32 (bits s)) ≡ value instructions
   pub is-program : instructions .got ≡ meant s .program
   pub outputs : Read (List ℕ)
   pub reads-outputs : read (results (h .outputs) (places h)) (instructions .left) ≡ value outputs

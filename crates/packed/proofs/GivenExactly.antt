@@ -5,13 +5,14 @@ use mathlib.Core.List.{List}
 use mathlib.Core.Logic.{_⊎_, inl, inr}
 use Prim.Native.Nat.{ℕ, _+_, _^_, _≤_, _<_}
 use native.Mathlib.Omega.{arith}
-use lib.Dec.{leb, ltb, eqb}
+use lib.Dec.{leb, ltb, eqb, lit≤}
 use borrow.Author.Tests.{leb-true, leb-false, ltb-false, eqb-true, eq-eqb, lt-leb}
 use lib.IntN.{natAbs}
 use lib.ListN.{length, take}
 use Rattle.rules.specs.Numbers.{M}
+use Rattle.rules.specs.Reciprocals.{top-reciprocal-scale}
 use Rattle.whole.proofs.Cases.{never}
-use Rattle.refusals.specs.Refusals.{refusal-number}
+use Rattle.refusals.specs.Refusals.{refusal-number, OfBytes, in-file-order, reciprocal-scale}
 use Rattle.refusals.specs.Said.{refuses}
 use Rattle.refusals.specs.Answer.{Answer, value, refused, refuse}
 use Rattle.refusals.proofs.Answers.{no-value, refused-same, then-value, then-refused}
@@ -19,7 +20,7 @@ use Rattle.bits.specs.Bits.{bits, number}
 use Rattle.bits.specs.Reader.{Read}
 use Rattle.bits.proofs.Digits.{bits-are}
 use Rattle.bits.proofs.Take.{field-got, field-ended}
-use Rattle.packed.specs.Items.{FieldKind, version, scale, inputs, instructions, outputs, code, constant, operand, centre, margin}
+use Rattle.packed.specs.Items.{FieldKind, version, scale, inputs, instructions, outputs, code, constant, operand, centre, margin, small-scale}
 use Rattle.packed.specs.Items.{twos-complement, width, permitted, complaint, from-below, entry, Form, done, ask, read}
 use Rattle.packed.specs.Format.{is-padding}
 use Rattle.formulas.specs.Formula.{Formula}
@@ -30,7 +31,7 @@ use Rattle.formulas.proofs.Lawful.{Lawful}
 use Rattle.formulas.proofs.GivenInRuns.{Refusing, refused-given-in-run, job-last}
 use Rattle.packed.specs.Meaning.{whole, formula, checked}
 use Rattle.packed.specs.Given.{Comes, here, later, EndsInside, Wrong, HoldsWrong, Meets, BadlyPadded, Given, one}
-use Rattle.packed.specs.Given.{two, three, four, five, six, seven, seven-margin, eight}
+use Rattle.packed.specs.Given.{two, three, four, five, six, seven, seven-margin, eight, sixteen}
 use Rattle.packed.proofs.PaddingGiven.{left-are, not-padding-false, false-not-padding}
 use Rattle.packed.proofs.FieldIn.{test-cut, test-failed, test-passed, below-out, above-out}
 
@@ -65,11 +66,12 @@ wrong-is scale n e = high (out-of 0 31 n e)
 wrong-is inputs n e = high (out-of 0 17 n e)
 wrong-is instructions n e = high (out-of 0 513 n e)
 wrong-is outputs n e = out-of 1 17 n e
-wrong-is code n e = high (out-of 0 6 n e)
+wrong-is code n e = high (out-of 0 7 n e)
 wrong-is constant n e = least (eqb n (2 ^ 31)) refl e
 wrong-is (operand v) n e = high (out-of 0 v n e)
 wrong-is centre n e = never e
 wrong-is (margin c) n e = leb-false (natAbs (twos-complement c) + n) M e
+wrong-is (small-scale F) n e = leb-false F top-reciprocal-scale e
 
 other-than-one : (n : ℕ) → (n ≡ 1 → ⊥) → (n < 1) ⊎ (2 ≤ n)
 other-than-one n d = by-test (leb 1 n) refl
@@ -88,11 +90,12 @@ wrong-not-permitted scale n l = above-out 0 31 n l
 wrong-not-permitted inputs n l = above-out 0 17 n l
 wrong-not-permitted instructions n l = above-out 0 513 n l
 wrong-not-permitted outputs n l = either-out 1 17 n l
-wrong-not-permitted code n l = above-out 0 6 n l
+wrong-not-permitted code n l = above-out 0 7 n l
 wrong-not-permitted constant n e = ap not (eq-eqb n (2 ^ 31) e)
 wrong-not-permitted (operand v) n l = above-out 0 v n l
 wrong-not-permitted centre n l = absurd l
 wrong-not-permitted (margin c) n l = lt-leb (natAbs (twos-complement c) + n) M l
+wrong-not-permitted (small-scale F) n l = lt-leb F top-reciprocal-scale l
 
 -- ---- one field
 
@@ -183,6 +186,7 @@ module _ (s : List ℕ) where
   given-refused (seven m) = meets-wrong constant m
   given-refused (seven-margin c m) = meets-wrong (margin c) m
   given-refused (eight b) = badly-padded b
+  given-refused (sixteen F m) = meets-wrong (small-scale F) m
 
   met : {k : FieldKind} {P : FieldKind → List ℕ → Type 0} {cs : List ℕ} → Comes whole (bits s) k cs → P k cs → Meets s k P
   met {cs = cs} c h = record { there = cs; comes = c; holds = h }
@@ -199,6 +203,7 @@ module _ (s : List ℕ) where
   of-faulty (holds centre c h) = absurd (h .1)
   of-faulty (holds (margin n) c h) = seven-margin n (met c h)
   of-faulty (holds (operand v) c h) = six v (met c h)
+  of-faulty (holds (small-scale F) c h) = sixteen F (met c h)
 
   accepted : {x : Read Formula} → read whole (bits s) ≡ value x → is-padding (x .left) ≡ true
       → checked s ≡ value (x .got .header)
@@ -222,34 +227,36 @@ module _ (s : List ℕ) where
 
 -- ---- what a job on these bytes gives
 
-given-between : {s : List ℕ} {n : ℕ} → Given s n → (1 ≤ n) × (n ≤ 8)
-given-between (one k m) = (omega arith, omega arith)
-given-between (two m) = (omega arith, omega arith)
-given-between (three m) = (omega arith, omega arith)
-given-between (four m) = (omega arith, omega arith)
-given-between (five m) = (omega arith, omega arith)
-given-between (six v m) = (omega arith, omega arith)
-given-between (seven m) = (omega arith, omega arith)
-given-between (seven-margin c m) = (omega arith, omega arith)
-given-between (eight b) = (omega arith, omega arith)
+given-of-bytes : {s : List ℕ} {n : ℕ} → Given s n → OfBytes n
+given-of-bytes (one k m) = in-file-order (lit≤ tt) (lit≤ tt)
+given-of-bytes (two m) = in-file-order (lit≤ tt) (lit≤ tt)
+given-of-bytes (three m) = in-file-order (lit≤ tt) (lit≤ tt)
+given-of-bytes (four m) = in-file-order (lit≤ tt) (lit≤ tt)
+given-of-bytes (five m) = in-file-order (lit≤ tt) (lit≤ tt)
+given-of-bytes (six v m) = in-file-order (lit≤ tt) (lit≤ tt)
+given-of-bytes (seven m) = in-file-order (lit≤ tt) (lit≤ tt)
+given-of-bytes (seven-margin c m) = in-file-order (lit≤ tt) (lit≤ tt)
+given-of-bytes (eight b) = in-file-order (lit≤ tt) (lit≤ tt)
+given-of-bytes (sixteen F m) = reciprocal-scale
 
--- reading refuses by 1 to 8
+numbered : {n : ℕ} → OfBytes n → 1 ≤ n
+numbered (in-file-order l m) = l
+numbered reciprocal-scale = lit≤ tt
+
+-- reading refuses by its own numbers
 module _ (s : List ℕ) (n : ℕ) (e : formula s ≡ refused n) where
-  unread-between : (1 ≤ n) × (n ≤ 8)
+  pub unread-of-bytes : OfBytes n
   unfolding checked
-  unread-between = given-between (refused-given s (then-refused (λ f. value (f .header)) e))
+  unread-of-bytes = given-of-bytes (refused-given s (then-refused (λ f. value (f .header)) e))
 
   pub formula-numbered : 1 ≤ n
-  formula-numbered = unread-between .0
-
-  unread-few : n ≤ 8
-  unread-few = unread-between .1
+  formula-numbered = numbered unread-of-bytes
 
 module _ {K : Kind} {T : Terms K} (law : Lawful K) (refusing : Refusing K T) (s : List ℕ) (given : K .Readings) where
-  -- 10, 11 and 13 to 15 are given exactly when the documents say; `given-in-run-refused` is the other way
-  pub run-refused-given : (lent : Lent K) {n k : ℕ} → 9 ≤ n → said (lent-job K (formula s) given lent) ≡ refuses n k
+  -- 10, 11, 13 to 15 and 17 are given exactly when the documents say; `given-in-run-refused` is the other way
+  pub run-refused-given : (lent : Lent K) {n k : ℕ} → (OfBytes n → ⊥) → said (lent-job K (formula s) given lent) ≡ refuses n k
       → GivenInRun K T (formula s) given lent n k
-  run-refused-given lent l e = refused-given-in-run law refusing (formula s) given lent (unread-few s) l e
+  run-refused-given lent other e = refused-given-in-run law refusing (formula s) given lent (unread-of-bytes s) other e
 
   pub job-numbers : (work output : ℕ) {n k : ℕ} → said (job K (formula s) given work output) ≡ refuses n k → JobNumber n
-  job-numbers work output e = job-last law refusing (formula s) given work output (unread-few s) e
+  job-numbers work output e = job-last law refusing (formula s) given work output (unread-of-bytes s) e

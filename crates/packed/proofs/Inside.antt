@@ -23,7 +23,7 @@ use Rattle.packed.specs.declared.loaded.Taken.{Taken}
 use Rattle.packed.specs.Items.{code, constant, operand, twos-complement, entry, read}
 use Rattle.packed.specs.Format.{two-operands, by-code, instruction, wide}
 use Rattle.packed.specs.Loading.{place-of, left, taken, Carries, Loads}
-use Rattle.packed.specs.ReaderAnswers.{combined, Instructed, InstructedFrom, ReadFrom, Reaches, ZeroCode, Zeroth}
+use Rattle.packed.specs.ReaderAnswers.{combined, Instructed, InstructedFrom, ReadBelow, ReadFrom, Reaches, ZeroCode, Zeroth}
 use Rattle.packed.specs.ReaderAnswers.{Named, Operands, Beyond, CutShort}
 use Rattle.packed.specs.ReaderAnswers.{code-taken, constant-taken, first-taken, second-taken}
 use Rattle.packed.proofs.FieldIn.{above-out, between}
@@ -54,47 +54,54 @@ pub constant-kept : {s : List ℕ} {l : Loaded} {z : ℤ} → Carries s l 57 →
 constant-kept c e = twos-complement-back _ (shr-lt 32 32 (past-code c .small)) e
 
 module _ (s : List ℕ) (v : ℕ) (l : Loaded) (carries : Carries s l 57) where
-  pub refuses : {r : Refusal} → read (instruction v) (left s l) ≡ refuse r → InstructedFrom s v l (Refused r)
-  refuses e = record { is = record { answers = sym e; past = tt } }
+  pub refuses-at : {F : ℕ} {r : Refusal} → read (instruction F v) (left s l) ≡ refuse r → InstructedFrom s F v l (Refused r)
+  refuses-at e = record { is = record { answers = sym e; past = tt } }
+
+  pub refuses : {r : Refusal} → ((F : ℕ) → read (instruction F v) (left s l) ≡ refuse r) → ReadBelow s v l (Refused r)
+  refuses e = record { is = λ F. refuses-at (e F) }
+
+  pub gives-at : {F : ℕ} {i : Instruction} (d : Loaded) {p : Cursor} → p ≡ place-of d → d .at ≡ l .at + wide i
+      → read (instruction F v) (left s l) ≡ value (record { got = i; left = left s d }) → InstructedFrom s F v l (Got i p)
+  gives-at d q w e = rw q (record { is = record { answers = sym e; past = w } })
 
   pub gives : {i : Instruction} (d : Loaded) {p : Cursor} → p ≡ place-of d → d .at ≡ l .at + wide i
-      → read (instruction v) (left s l) ≡ value (record { got = i; left = left s d }) → InstructedFrom s v l (Got i p)
-  gives d q w e = rw q (record { is = record { answers = sym e; past = w } })
+      → ((F : ℕ) → read (instruction F v) (left s l) ≡ value (record { got = i; left = left s d })) → ReadBelow s v l (Got i p)
+  gives d q w e = record { is = λ F. gives-at d q w (e F) }
 
   -- ---- the code
 
   module _ (t : Reaches s (code-taken l .rest)) where
-    pub coded : code-taken l .field < 6 → read (instruction v) (left s l) ≡ read (by-code v (code-taken l .field)) (left s (code-taken l .rest))
+    pub coded : (F : ℕ) → code-taken l .field < 7 → read (instruction F v) (left s l) ≡ read (by-code F v (code-taken l .field)) (left s (code-taken l .rest))
     unfolding instruction
-    coded m = rw (fine s l code (lit≤ tt) 54 carries (lit≤ tt) t (between 0 6 _ zero-le m))
+    coded F m = rw (fine s l code (lit≤ tt) 54 carries (lit≤ tt) t (between 0 7 _ zero-le m))
 
-    coded-as : (n : ℕ) → n < 6 → code-taken l .field ≡ n
-        → read (instruction v) (left s l) ≡ read (by-code v n) (left s (code-taken l .rest))
-    coded-as n m e = coded (omega arith) ∙ ap (λ m. read (by-code v m) (left s (code-taken l .rest))) e
+    pub coded-as : (F n : ℕ) → n < 7 → code-taken l .field ≡ n
+        → read (instruction F v) (left s l) ≡ read (by-code F v n) (left s (code-taken l .rest))
+    coded-as F n m e = coded F (omega arith) ∙ ap (λ m. read (by-code F v m) (left s (code-taken l .rest))) e
 
     module _ (m : code-taken l .field < 5) (some : code-taken l .field ≡ 0 → ⊥) where
-      two-coded : (code-taken l .field ≡ 1 → ⊥) → read (instruction v) (left s l)
+      two-coded : (F : ℕ) → (code-taken l .field ≡ 1 → ⊥) → read (instruction F v) (left s l)
           ≡ read (two-operands (combined (code-taken l .field)) v) (left s (code-taken l .rest))
-      two-coded two = coded (omega arith) ∙ by-code-two v (code-taken l .field) (left s (code-taken l .rest)) some two m
+      two-coded F two = coded F (omega arith) ∙ by-code-two F v (code-taken l .field) (left s (code-taken l .rest)) some two m
 
       -- whatever the code is, its first operand is refused
       first-operand : {n : ℕ} → entry (operand v) (left s (code-taken l .rest)) ≡ refused n
-          → read (instruction v) (left s l) ≡ refused n
+          → (F : ℕ) → read (instruction F v) (left s l) ≡ refused n
       unfolding by-code
-      first-operand {n} e = by-test (eqb (code-taken l .field) 1) refl
+      first-operand {n} e F = by-test (eqb (code-taken l .field) 1) refl
         where
-          by-test : (b : Bool) → eqb (code-taken l .field) 1 ≡ b → read (instruction v) (left s l) ≡ refused n
-          by-test true u = coded-as 1 (lit≤ tt) (eqb-true (code-taken l .field) 1 u) ∙ rw e
-          by-test false u = two-coded (eqb-false (code-taken l .field) 1 u) ∙ rw e
+          by-test : (b : Bool) → eqb (code-taken l .field) 1 ≡ b → read (instruction F v) (left s l) ≡ refused n
+          by-test true u = coded-as F 1 (lit≤ tt) (eqb-true (code-taken l .field) 1 u) ∙ rw e
+          by-test false u = two-coded F (eqb-false (code-taken l .field) 1 u) ∙ rw e
 
   -- ---- the operands
 
-  first-fine : Reaches s (first-taken l .rest) → first-taken l .field < v → entry (operand v) (left s (code-taken l .rest))
+  pub first-fine : Reaches s (first-taken l .rest) → first-taken l .field < v → entry (operand v) (left s (code-taken l .rest))
       ≡ value (record { got = first-taken l .field; left = left s (first-taken l .rest) })
   first-fine t m =
       fine s (code-taken l .rest) (operand v) (lit≤ tt) 44 (past-code carries) (lit≤ tt) t (between 0 v _ zero-le m)
 
-  first-wrong : Reaches s (first-taken l .rest) → v ≤ first-taken l .field
+  pub first-wrong : Reaches s (first-taken l .rest) → v ≤ first-taken l .field
       → entry (operand v) (left s (code-taken l .rest)) ≡ refuse refusal.Operand
   first-wrong t m =
       wrong s (code-taken l .rest) (operand v) (lit≤ tt) 44 (past-code carries) (lit≤ tt) t (above-out 0 v _ m)
@@ -121,7 +128,7 @@ module _ (s : List ℕ) (v : ℕ) (l : Loaded) (carries : Carries s l 57) where
     some-code : code-taken l .field ≡ 0 → ⊥
     some-code e = omega (arith, o .named .some, e)
 
-    pub first-refused : v ≤ i .field → InstructedFrom s v l (Refused refusal.Operand)
+    pub first-refused : v ≤ i .field → ReadBelow s v l (Refused refusal.Operand)
     first-refused m =
         refuses (first-operand there (o .named .most) some-code (first-wrong (o .first-there) (rw is-first at m)))
 
@@ -130,11 +137,11 @@ module _ (s : List ℕ) (v : ℕ) (l : Loaded) (carries : Carries s l 57) where
           ≡ value (record { got = first-taken l .field; left = left s (first-taken l .rest) })
       first-is = first-fine (o .first-there) (rw is-first at named)
 
-      pub negate-ahead : {p : Cursor} → p ≡ place-of (i .rest) → c .field ≡ 1 → InstructedFrom s v l (Got (Negate (i .field)) p)
+      pub negate-ahead : {p : Cursor} → p ≡ place-of (i .rest) → c .field ≡ 1 → ReadBelow s v l (Got (Negate (i .field)) p)
       unfolding by-code
       negate-ahead q one =
           rw is-first
-          (gives (first-taken l .rest) (rw is-first at q) (omega arith) (coded-as there 1 (lit≤ tt) (rw tc at one) ∙ rw first-is))
+          (gives (first-taken l .rest) (rw is-first at q) (omega arith) (λ F. coded-as there F 1 (lit≤ tt) (rw tc at one) ∙ rw first-is))
 
       module _ (two : c .field ≡ 1 → ⊥) {j : Taken} (tj : j ≡ taken 10 (i .rest)) where
         is-second : j ≡ second-taken l
@@ -148,25 +155,25 @@ module _ (s : List ℕ) (v : ℕ) (l : Loaded) (carries : Carries s l 57) where
             let d = other-code in
             o .second-there (omega (arith, o .named .some)) (rw is-first at named)
 
-        both-coded : read (instruction v) (left s l)
+        both-coded : (F : ℕ) → read (instruction F v) (left s l)
             ≡ read (two-operands (combined (code-taken l .field)) v) (left s (code-taken l .rest))
-        both-coded = two-coded there (o .named .most) some-code other-code
+        both-coded F = two-coded there (o .named .most) some-code F other-code
 
-        pub second-refused : v ≤ j .field → InstructedFrom s v l (Refused refusal.Operand)
-        second-refused m = refuses (both-coded ∙ rw (first-is, second-wrong second-there (rw is-second at m)))
+        pub second-refused : v ≤ j .field → ReadBelow s v l (Refused refusal.Operand)
+        second-refused m = refuses (λ F. both-coded F ∙ rw (first-is, second-wrong second-there (rw is-second at m)))
 
         second-stands : second-taken l .rest .at
             ≡ l .at + wide (combined (code-taken l .field) (first-taken l .field) (second-taken l .field))
         second-stands = omega (arith, combined-wide (code-taken l .field) (first-taken l .field) (second-taken l .field))
 
         pub two-ahead : {x : Instruction} {p : Cursor} → j .field < v → p ≡ place-of (j .rest)
-            → x ≡ combined (c .field) (i .field) (j .field) → InstructedFrom s v l (Got x p)
+            → x ≡ combined (c .field) (i .field) (j .field) → ReadBelow s v l (Got x p)
         two-ahead {x} m q e =
             let x-is : x ≡ combined (code-taken l .field) (first-taken l .field) (second-taken l .field) =
             rw (tc, is-first, is-second) at e in
             rw x-is
             (gives (second-taken l .rest) (rw is-second at q) second-stands
-            (both-coded ∙ rw (first-is, second-fine second-there (rw is-second at m))))
+            (λ F. both-coded F ∙ rw (first-is, second-fine second-there (rw is-second at m))))
 
   -- ---- or the bytes end
 
@@ -174,9 +181,9 @@ module _ (s : List ℕ) (v : ℕ) (l : Loaded) (carries : Carries s l 57) where
     code-test : b ≡ ltb (8 * length s) (code-taken l .rest .at)
     code-test = rw tc at tb
 
-    pub cut-code : b ≡ true → InstructedFrom s v l (Refused refusal.Ended)
+    pub cut-code : b ≡ true → ReadBelow s v l (Refused refusal.Ended)
     unfolding instruction
-    cut-code e = refuses (rw (missing s l code (lit≤ tt) (ltb-true _ _ (sym code-test ∙ e))))
+    cut-code e = refuses (λ F. rw (missing s l code (lit≤ tt) (ltb-true _ _ (sym code-test ∙ e))))
 
   module _ (o : Named s l) {c : Taken} (tc : c ≡ taken 3 l) {i : Taken} (ti : i ≡ taken 10 (c .rest)) {d : Bool}
       (td : d ≡ ltb (8 * length s) (i .rest .at)) where
@@ -189,7 +196,7 @@ module _ (s : List ℕ) (v : ℕ) (l : Loaded) (carries : Carries s l 57) where
     some' : code-taken l .field ≡ 0 → ⊥
     some' e = omega (arith, o .some, e)
 
-    pub cut-first : d ≡ true → InstructedFrom s v l (Refused refusal.Ended)
+    pub cut-first : d ≡ true → ReadBelow s v l (Refused refusal.Ended)
     cut-first f =
         refuses
         (first-operand (o .code-there) (o .most) some'
@@ -226,7 +233,7 @@ module _ (s : List ℕ) (v : ℕ) (l : Loaded) (carries : Carries s l 57) where
           by-test : (t : Bool) → r ≡ t → CutShort s v l t
           by-test true u =
               refuses
-              (two-coded (o .code-there) (o .most) some' other
+              (λ F. two-coded (o .code-there) (o .most) some' F other
               ∙ rw (
                 first-fine reaches-first named',
                 missing s (first-taken l .rest) (operand v) (lit≤ tt) (ltb-true _ _ (sym test ∙ u)),
@@ -291,7 +298,7 @@ module _ {s : List ℕ} {l : Loaded} (o : ZeroCode s l) {c k : Taken} {r : Bool}
   cut-constant u =
       record {
         is = λ v. refuses s v l (o .carries)
-            (coded-as s v l (o .carries) (o .code-there) 0 (lit≤ tt) (o .is-zero)
+            (λ F. coded-as s v l (o .carries) (o .code-there) F 0 (lit≤ tt) (o .is-zero)
             ∙ rw (missing s (code-taken l .rest) constant (lit≤ tt) (ltb-true _ _ (sym constant-test ∙ u))));
       }
 
@@ -308,15 +315,15 @@ module _ {s : List ℕ} {l : Loaded} (o : Zeroth s l) {c k : Taken} (tc : c ≡ 
   same-constant : k ≡ constant-taken l
   same-constant = tk ∙ ap (λ (t : Taken). taken 32 (t .rest)) tc
 
-  asks : (v : ℕ) → read (instruction v) (left s l) ≡ read (by-code v 0) (left s (code-taken l .rest))
-  asks v = coded-as s v l (o .carries) (record { is = omega (arith, o .constant-there .is) }) 0 (lit≤ tt) (o .is-zero)
+  asks : (F v : ℕ) → read (instruction F v) (left s l) ≡ read (by-code F v 0) (left s (code-taken l .rest))
+  asks F v = coded-as s v l (o .carries) (record { is = omega (arith, o .constant-there .is) }) F 0 (lit≤ tt) (o .is-zero)
 
   pub constant-refused : k .field ≡ 2 ^ 31 → ReadFrom s l (Refused refusal.Constant)
   unfolding by-code
   constant-refused m =
       let n : constant-taken l .field ≡ 2 ^ 31 = rw same-constant at m in
       let e = wrong s (code-taken l .rest) constant (lit≤ tt) 22 (past-code (o .carries)) (lit≤ tt) (o .constant-there) (ap not (eq-eqb _ (2 ^ 31) n)) in
-      record { is = λ v. refuses s v l (o .carries) (asks v ∙ rw e) }
+      record { is = λ v. refuses s v l (o .carries) (λ F. asks F v ∙ rw e) }
 
   pub constant-ahead : {z : ℤ} {p : Cursor} → (k .field ≡ 2 ^ 31 → ⊥) → z ≡ twos-complement (k .field)
       → p ≡ place-of (k .rest) → ReadFrom s l (Got (Constant (back z)) p)
@@ -325,20 +332,23 @@ module _ {s : List ℕ} {l : Loaded} (o : Zeroth s l) {c k : Taken} (tc : c ≡ 
       let n : (constant-taken l .field ≡ 2 ^ 31 → ⊥) = rw same-constant at m in
       let f = fine s (code-taken l .rest) constant (lit≤ tt) 22 (past-code (o .carries)) (lit≤ tt) (o .constant-there) (ap not (ne-eqb _ (2 ^ 31) n)) in
       rw (constant-kept (o .carries) (rw same-constant at e))
-      (record { is = λ v. gives s v l (o .carries) (constant-taken l .rest) (rw same-constant at q) (omega arith) (asks v ∙ rw f) })
+      (record { is = λ v. gives s v l (o .carries) (constant-taken l .rest) (rw same-constant at q) (omega arith) (λ F. asks F v ∙ rw f) })
 
 module _ (s : List ℕ) (v : ℕ) (l : Loaded) {r : Bool} where
-  pub was-cut-short : CutShort s v l r → r ≡ true → InstructedFrom s v l (Refused refusal.Ended)
+  pub was-cut-short : CutShort s v l r → r ≡ true → ReadBelow s v l (Refused refusal.Ended)
   was-cut-short a e = rw e at a
 
   pub was-enough : CutShort s v l r → r ≡ false → Operands s v l
   was-enough a e = rw e at a
 
--- what is read whichever value is made, for the value that is made
-pub read-from : {s : List ℕ} {v : ℕ} {l : Loaded} {r : InstructionRead} → ReadFrom s l r → InstructedFrom s v l r
-read-from o = o .is _
+-- what is read whichever value is made, and at whichever scale, for those that are
+pub read-from : {s : List ℕ} {F v : ℕ} {l : Loaded} {r : InstructionRead} → ReadFrom s l r → InstructedFrom s F v l r
+read-from {F = F} {v} o = o .is v .is F
+
+pub read-below : {s : List ℕ} {F v : ℕ} {l : Loaded} {r : InstructionRead} → ReadBelow s v l r → InstructedFrom s F v l r
+read-below {F = F} o = o .is F
 
 -- what is read from a cursor's place, once its bits are loaded
-pub from-place : {s : List ℕ} {v : ℕ} {c : Cursor} {l : Loaded} {r : InstructionRead} → Loads s c l
-    → InstructedFrom s v l r → Instructed s v c r
-from-place {s} {v} {c} {r = r} o i = subst (λ (l : Loaded). Instructed s v (place-of l) r) (o .is) (i .is)
+pub from-place : {s : List ℕ} {F v : ℕ} {c : Cursor} {l : Loaded} {r : InstructionRead} → Loads s c l
+    → InstructedFrom s F v l r → Instructed s F v c r
+from-place {s} {F} {v} {c} {r = r} o i = subst (λ (l : Loaded). Instructed s F v (place-of l) r) (o .is) (i .is)

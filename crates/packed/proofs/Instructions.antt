@@ -10,9 +10,9 @@ use lib.IntN.{ℤ, pos, natAbs, _-ℤ_}
 use Rattle.whole.proofs.Machine.{back, back-is}
 use Rattle.whole.proofs.Size.{size-sub}
 use Rattle.formulas.specs.declared.Instruction.{Instruction}
-use Rattle.formulas.specs.declared.Instruction.the-variants.{Constant, Negate, Add, Subtract, Multiply, Coefficient}
+use Rattle.formulas.specs.declared.Instruction.the-variants.{Constant, Negate, Add, Subtract, Multiply, Coefficient, Reciprocal}
 use Rattle.packed.specs.Items.{twos-complement, read}
-use Rattle.packed.specs.Format.{two-operands, with-margin, by-code, wide, widest}
+use Rattle.packed.specs.Format.{two-operands, with-margin, of-one-divided, by-code, wide, widest}
 use Rattle.packed.specs.ReaderAnswers.{combined}
 
 pub twos-complement-low : (c : ℕ) → c < 2 ^ 31 → twos-complement c ≡ pos c
@@ -36,25 +36,25 @@ pub twos-complement-back : (c : ℕ) {z : ℤ} → c < 2 ^ 32 → z ≡ twos-com
 twos-complement-back c {z} l e = ap back e ∙ back-is (twos-complement c) (twos-complement-size c l)
 
 -- codes 2 to 4
-pub by-code-two : (v code : ℕ) (bs : List ℕ) → (code ≡ 0 → ⊥) → (code ≡ 1 → ⊥)
-    → code < 5 → read (by-code v code) bs ≡ read (two-operands (combined code) v) bs
+pub by-code-two : (F v code : ℕ) (bs : List ℕ) → (code ≡ 0 → ⊥) → (code ≡ 1 → ⊥)
+    → code < 5 → read (by-code F v code) bs ≡ read (two-operands (combined code) v) bs
 unfolding by-code
-by-code-two v zero bs p q l = absurd (p refl)
-by-code-two v (suc zero) bs p q l = absurd (q refl)
-by-code-two v (suc (suc zero)) bs p q l = refl
-by-code-two v (suc (suc (suc zero))) bs p q l = refl
-by-code-two v (suc (suc (suc (suc zero)))) bs p q l = refl
-by-code-two v (suc (suc (suc (suc (suc k))))) bs p q l = absurd (omega arith)
+by-code-two F v zero bs p q l = absurd (p refl)
+by-code-two F v (suc zero) bs p q l = absurd (q refl)
+by-code-two F v (suc (suc zero)) bs p q l = refl
+by-code-two F v (suc (suc (suc zero))) bs p q l = refl
+by-code-two F v (suc (suc (suc (suc zero)))) bs p q l = refl
+by-code-two F v (suc (suc (suc (suc (suc k))))) bs p q l = absurd (omega arith)
 
--- from code 5 on
-pub by-code-margin : (v code : ℕ) (bs : List ℕ) → 5 ≤ code → read (by-code v code) bs ≡ read with-margin bs
+-- code 5
+pub by-code-margin : (F v : ℕ) (bs : List ℕ) → read (by-code F v 5) bs ≡ read with-margin bs
 unfolding by-code
-by-code-margin v zero bs l = absurd (omega arith)
-by-code-margin v (suc zero) bs l = absurd (omega arith)
-by-code-margin v (suc (suc zero)) bs l = absurd (omega arith)
-by-code-margin v (suc (suc (suc zero))) bs l = absurd (omega arith)
-by-code-margin v (suc (suc (suc (suc zero)))) bs l = absurd (omega arith)
-by-code-margin v (suc (suc (suc (suc (suc k))))) bs l = refl
+by-code-margin F v bs = refl
+
+-- code 6
+pub by-code-reciprocal : (F v : ℕ) (bs : List ℕ) → read (by-code F v 6) bs ≡ read (of-one-divided F v) bs
+unfolding by-code
+by-code-reciprocal F v bs = refl
 
 pub wide-most : (i : Instruction) → wide i ≤ widest
 wide-most (Constant c) = lit≤ tt
@@ -63,3 +63,4 @@ wide-most (Add i j) = lit≤ tt
 wide-most (Subtract i j) = lit≤ tt
 wide-most (Multiply i j) = lit≤ tt
 wide-most (Coefficient c r) = lit≤ tt
+wide-most (Reciprocal i) = lit≤ tt

@@ -9,6 +9,7 @@ pub mod PaddingGiven
 pub mod GivenExactly
 pub mod Shapes
 pub mod Margins
+pub mod Reciprocals
 pub mod Accepted
 pub mod Formed
 pub mod OneInstruction

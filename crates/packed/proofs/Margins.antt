@@ -29,13 +29,13 @@ use Rattle.packed.specs.declared.loaded.Taken.{Taken}
 use Rattle.packed.specs.Items.{code, centre, margin, twos-complement, permitted, entry, Form, ask, done, read}
 use Rattle.packed.specs.Format.{with-margin, instruction, widest}
 use Rattle.packed.specs.Loading.{place-of, left, taken, Carries}
-use Rattle.packed.specs.ReaderAnswers.{ReadFrom, Reaches, Beyond, WithMargin}
+use Rattle.packed.specs.ReaderAnswers.{ReadFrom, InstructedFrom, Reaches, Beyond, Fifth, WithMargin}
 use Rattle.packed.specs.ReaderAnswers.{IsCentred, code-taken, constant-taken, margin-bits}
 use Rattle.packed.specs.Walk.{Readable, DecodesFrom}
 use Rattle.packed.proofs.FieldIn.{above-out, test-failed, test-passed}
 use Rattle.packed.proofs.Instructions.{twos-complement-size, by-code-margin}
 use Rattle.packed.proofs.Taking.{left-long, missing, wrong, fine}
-use Rattle.packed.proofs.Inside.{past-code, constant-kept, refuses, coded}
+use Rattle.packed.proofs.Inside.{past-code, constant-kept, refuses-at, refuses, coded-as}
 use Rattle.packed.proofs.Shapes as shapes
 
 -- a centre, and a margin behind it
@@ -128,90 +128,101 @@ module _ {s : List ℕ} {l : Loaded} (w : WithMargin s l) where
       place = omega arith
 
 -- a place a little further on
-pub end-fits : {s : List ℕ} {l : Loaded} {n : ℕ} → Beyond s l → n ≤ 1024 → l .at + n < 2 ^ 64
+pub end-fits : {s : List ℕ} {l : Loaded} {n : ℕ} → Fifth s l → n ≤ 1024 → l .at + n < 2 ^ 64
 end-fits o m = omega (arith, o .near)
 
-pub test-fits : {s : List ℕ} {l : Loaded} {n : ℕ} → Beyond s l → n ≤ 1024 → l .at + n + 7 < 2 ^ 64
+pub test-fits : {s : List ℕ} {l : Loaded} {n : ℕ} → Fifth s l → n ≤ 1024 → l .at + n + 7 < 2 ^ 64
 test-fits o m = omega (arith, o .near)
 
-module _ {s : List ℕ} {l : Loaded} (o : Beyond s l) where
-  pub no-such-code : {c : Taken} → c ≡ taken 3 l → 6 ≤ c .field → ReadFrom s l (Refused refusal.Code)
+module _ {s : List ℕ} {l : Loaded} (o : Beyond s l) {c : Taken} (tc : c ≡ taken 3 l) where
+  pub is-fifth : c .field ≡ 5 → Fifth s l
+  is-fifth e = record { near = o .near; carries = o .carries; code-there = o .code-there; is-five = rw tc at e }
+
+  pub no-such-code : (F v : ℕ) → (c .field ≡ 5 → ⊥) → (c .field ≡ 6 → ⊥) → InstructedFrom s F v l (Refused refusal.Code)
   unfolding instruction
-  no-such-code tc m =
-      record {
-        is = λ v. refuses s v l (o .carries)
-            (rw (wrong s l code (lit≤ tt) 54 (o .carries) (lit≤ tt) (o .code-there) (above-out 0 6 _ (rw tc at m))));
-      }
+  no-such-code F v five six =
+      let other : (code-taken l .field ≡ 5 → ⊥) = rw tc at five in
+      let another : (code-taken l .field ≡ 6 → ⊥) = rw tc at six in
+      let out : 7 ≤ code-taken l .field = omega (arith, o .from-five, other, another) in
+      refuses-at s v l (o .carries) (rw (wrong s l code (lit≤ tt) 54 (o .carries) (lit≤ tt) (o .code-there) (above-out 0 7 _ out)))
 
-  module _ {c : Taken} (tc : c ≡ taken 3 l) (known : c .field < 6) where
-    asks : (v : ℕ) → read (instruction v) (left s l) ≡ read with-margin (left s (code-taken l .rest))
-    asks v =
-        coded s v l (o .carries) (o .code-there) (rw tc at known)
-        ∙ by-code-margin v (code-taken l .field) (left s (code-taken l .rest)) (o .from-five)
+module _ {s : List ℕ} {l : Loaded} (o : Fifth s l) where
+  asks : (F v : ℕ) → read (instruction F v) (left s l) ≡ read with-margin (left s (code-taken l .rest))
+  asks F v =
+      coded-as s v l (o .carries) (o .code-there) F 5 (lit≤ tt) (o .is-five)
+      ∙ by-code-margin F v (left s (code-taken l .rest))
 
-    pub margin-ended : {n : ℕ} → length s < (l .at + n + 7) / 8 → n ≤ 66 → ReadFrom s l (Refused refusal.Ended)
-    margin-ended e m = record { is = λ v. refuses s v l (o .carries) (asks v ∙ margin-missing (o .carries) (omega (arith, e))) }
+  pub margin-ended : {n : ℕ} → length s < (l .at + n + 7) / 8 → n ≤ 66 → ReadFrom s l (Refused refusal.Ended)
+  margin-ended e m = record { is = λ v. refuses s v l (o .carries) (λ F. asks F v ∙ margin-missing (o .carries) (omega (arith, e))) }
 
-    module _ (e : (l .at + 66 + 7) / 8 ≤ length s) where
-      all-there : l .at + widest ≤ 8 * length s
-      all-there = omega (arith, e)
+  module _ (e : (l .at + 66 + 7) / 8 ≤ length s) where
+    all-there : l .at + widest ≤ 8 * length s
+    all-there = omega (arith, e)
 
-      pub both-there : WithMargin s l
-      both-there = record { near = o .near; carries = o .carries; reaches = all-there }
+    pub both-there : WithMargin s l
+    both-there = record { near = o .near; carries = o .carries; reaches = all-there }
 
-      module _ {g : Centred} (gets : IsCentred s l g) where
-        is-kept : back (g .centre) ≡ twos-complement (constant-taken l .field)
-        is-kept = constant-kept (o .carries) (gets .centre-is)
+    module _ {g : Centred} (gets : IsCentred s l g) where
+      is-kept : back (g .centre) ≡ twos-complement (constant-taken l .field)
+      is-kept = constant-kept (o .carries) (gets .centre-is)
 
-        margin-small : g .margin < 2 ^ 31
-        margin-small =
-            rw (gets .margin-is) (field-bits 31 (are-bits-drop (l .at + 3 + 32) (bits-are s)) (margin-got (o .carries) all-there) .0)
+      margin-small : g .margin < 2 ^ 31
+      margin-small =
+          rw (gets .margin-is) (field-bits 31 (are-bits-drop (l .at + 3 + 32) (bits-are s)) (margin-got (o .carries) all-there) .0)
 
-        module _ {n : ℕ} (tn : n ≡ natAbs (back (g .centre))) where
-          -- a size and a margin are added in 64 bits
-          pub reach-fits : n + g .margin < 2 ^ 64
-          reach-fits =
-              let is : n ≡ natAbs (twos-complement (constant-taken l .field)) = tn ∙ ap natAbs is-kept in
-              omega (
-                arith,
-                is,
-                margin-small,
-                twos-complement-size (constant-taken l .field) (shr-lt 32 32 (past-code (o .carries) .small)),
-              )
+      module _ {n : ℕ} (tn : n ≡ natAbs (back (g .centre))) where
+        -- a size and a margin are added in 64 bits
+        pub reach-fits : n + g .margin < 2 ^ 64
+        reach-fits =
+            let is : n ≡ natAbs (twos-complement (constant-taken l .field)) = tn ∙ ap natAbs is-kept in
+            omega (
+              arith,
+              is,
+              margin-small,
+              twos-complement-size (constant-taken l .field) (shr-lt 32 32 (past-code (o .carries) .small)),
+            )
 
-          pub margin-refused : M < n + g .margin → ReadFrom s l (Refused refusal.Constant)
-          margin-refused over =
-              let far = rw (tn, is-kept, gets .margin-is) at over in
-              record { is = λ v. refuses s v l (o .carries) (asks v ∙ margin-wrong (o .carries) all-there far) }
+        pub margin-refused : M < n + g .margin → ReadFrom s l (Refused refusal.Constant)
+        margin-refused over =
+            let far = rw (tn, is-kept, gets .margin-is) at over in
+            record { is = λ v. refuses s v l (o .carries) (λ F. asks F v ∙ margin-wrong (o .carries) all-there far) }
 
-          pub margin-ahead : n + g .margin ≤ M
-              → ReadFrom s l (Got (Coefficient (back (g .centre)) (g .margin)) (record { at = l .at + 66 }))
-          margin-ahead within =
-              let near = rw (tn, is-kept, gets .margin-is) at within in
-              rw (is-kept, gets .margin-is)
-              (record { is = λ v. record { is = record { answers = sym (asks v ∙ margin-fine (o .carries) all-there near); past = omega arith } } })
+        pub margin-ahead : n + g .margin ≤ M
+            → ReadFrom s l (Got (Coefficient (back (g .centre)) (g .margin)) (record { at = l .at + 66 }))
+        margin-ahead within =
+            let near = rw (tn, is-kept, gets .margin-is) at within in
+            rw (is-kept, gets .margin-is)
+            (record { is = λ v. record { is = λ F. record { is = record { answers = sym (asks F v ∙ margin-fine (o .carries) all-there near); past = omega arith } } } })
 
 -- ---- and as a walk takes them
 
-module _ {s : List ℕ} {l : Loaded} {c : Taken} (carries : Carries s l 57) (tc : c ≡ taken 3 l) (five : 5 ≤ c .field) where
-  -- what was read began with a centre, and a margin was behind it
-  centre-asked : (v : ℕ) {y : Read Instruction} → read (instruction v) (left s l) ≡ value y
-      → read (ask (margin (constant-taken l .field)) (made (constant-taken l .field))) (margin-bits s l) ≡ value y
-  centre-asked v e =
-      shapes.next centre 22 (λ n. ask (margin n) (made n)) (past-code carries) (lit≤ tt) (lit≤ tt)
-      (sym (by-code-margin v (code-taken l .field) (left s (code-taken l .rest)) (rw tc at five)) ∙ shapes.coded s l carries v e)
+module _ {s : List ℕ} {l : Loaded} {c : Taken} (carries : Carries s l 57) (tc : c ≡ taken 3 l) (five : 5 ≤ c .field)
+    (margined : c .field ≡ 6 → ⊥) where
+  is-margined : (F v : ℕ) {y : Read Instruction} → read (instruction F v) (left s l) ≡ value y → code-taken l .field ≡ 5
+  is-margined F v e =
+      let least : 5 ≤ code-taken l .field = rw tc at five in
+      let other : (code-taken l .field ≡ 6 → ⊥) = rw tc at margined in
+      omega (arith, least, other, shapes.code-known s l carries F v e)
 
-  margin-asked : (v : ℕ) {y : Read Instruction} → read (instruction v) (left s l) ≡ value y
+  -- what was read began with a centre, and a margin was behind it
+  centre-asked : (F v : ℕ) {y : Read Instruction} → read (instruction F v) (left s l) ≡ value y
+      → read (ask (margin (constant-taken l .field)) (made (constant-taken l .field))) (margin-bits s l) ≡ value y
+  centre-asked F v e =
+      let is-five = is-margined F v e in
+      shapes.next centre 22 (λ n. ask (margin n) (made n)) (past-code carries) (lit≤ tt) (lit≤ tt)
+      (sym (by-code-margin F v (left s (code-taken l .rest))) ∙ rw is-five at (shapes.coded s l carries F v e))
+
+  margin-asked : (F v : ℕ) {y : Read Instruction} → read (instruction F v) (left s l) ≡ value y
       → shapes.Asked (margin (constant-taken l .field)) (made (constant-taken l .field)) (margin-bits s l) y
-  margin-asked v e =
-      shapes.asked (margin (constant-taken l .field)) (made (constant-taken l .field)) (margin-bits s l) (centre-asked v e)
+  margin-asked F v e =
+      shapes.asked (margin (constant-taken l .field)) (made (constant-taken l .field)) (margin-bits s l) (centre-asked F v e)
 
   pub margin-readable : l .at ≤ 2 ^ 30 → Readable s (place-of l) → WithMargin s l
   margin-readable near r =
       record {
         near = near;
         carries = carries;
-        reaches = omega (arith, margin-asked (r .below) (r .reads) .there, left-long s (constant-taken l .rest));
+        reaches = omega (arith, margin-asked (r .scale) (r .below) (r .reads) .there, left-long s (constant-taken l .rest));
       }
 
   pub decoded-coefficient : {g : Centred} → IsCentred s l g
@@ -221,8 +232,8 @@ module _ {s : List ℕ} {l : Loaded} {c : Taken} (carries : Carries s l 57) (tc 
       (record {
         is =
             record {
-              decoded = λ v y e.
-                  let same = same-value (margin-asked v e .follows) in (
+              decoded = λ F v y e.
+                  let same = same-value (margin-asked F v e .follows) in (
                     ap (λ (z : Read Instruction). z .got) same,
                     behind ∙ ap (λ (z : Read Instruction). z .left) same,
                   );

@@ -18,9 +18,9 @@ use Rattle.packed.specs.Walk.{Readable, Decodes}
 ends-once : (c d e : Cursor) {i j : Instruction} → i ≡ j → d .at ≡ c .at + wide i → e .at ≡ c .at + wide j → d ≡ e
 ends-once c d e same p q = one-cursor d e (p ∙ ap (λ i. c .at + wide i) same ∙ sym q)
 
-pub instructed-one-outcome : (s : List ℕ) (v : ℕ) (c : Cursor) (r t : InstructionRead) → Instructed s v c r
-    → Instructed s v c t → r ≡ t
-instructed-one-outcome s v c r t a b = by-case r t (a .answers ∙ sym (b .answers)) (a .past) (b .past)
+pub instructed-one-outcome : (s : List ℕ) (F v : ℕ) (c : Cursor) (r t : InstructionRead) → Instructed s F v c r
+    → Instructed s F v c t → r ≡ t
+instructed-one-outcome s F v c r t a b = by-case r t (a .answers ∙ sym (b .answers)) (a .past) (b .past)
   where
     by-case : (r t : InstructionRead) → instruction-answer s r ≡ instruction-answer s t → InstructionPast c r
         → InstructionPast c t → r ≡ t
@@ -34,5 +34,5 @@ instructed-one-outcome s v c r t a b = by-case r t (a .answers ∙ sym (b .answe
 pub decodes-one-outcome : {s : List ℕ} {c d e : Cursor} {i j : Instruction} → Readable s c → Decodes s c i d
     → Decodes s c j e → (i ≡ j) × (d ≡ e)
 decodes-one-outcome {s} {c} {d} {e} r a b =
-    let same = a .decoded (r .below) (r .all) (r .reads) .0 ∙ sym (b .decoded (r .below) (r .all) (r .reads) .0) in
+    let same = a .decoded (r .scale) (r .below) (r .all) (r .reads) .0 ∙ sym (b .decoded (r .scale) (r .below) (r .all) (r .reads) .0) in
     (same, ends-once c d e same (a .stands) (b .stands))

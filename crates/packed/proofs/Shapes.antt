@@ -27,6 +27,7 @@ use Rattle.packed.specs.Walk.{Readable, Decodes, DecodesFrom}
 use Rattle.packed.proofs.FieldIn.{passed-test}
 use Rattle.packed.proofs.Instructions.{by-code-two}
 use Rattle.packed.proofs.Taking.{top}
+use Rattle.packed.proofs.WellFormed.{in-range}
 use Rattle.packed.proofs.Inside.{combined-wide, past-code, past-first, constant-kept}
 
 -- a field that was read: it was there, and this is its number
@@ -65,23 +66,33 @@ next {s = s} {l} k n f {x} c most some e =
     (drop-drop (width k) (l .at) (bits s)) (a .follows)
 
 module _ (s : List ℕ) (l : Loaded) (carries : Carries s l 57) where
-  pub coded : (v : ℕ) {y : Read Instruction} → read (instruction v) (left s l) ≡ value y
-      → read (by-code v (code-taken l .field)) (left s (code-taken l .rest)) ≡ value y
+  pub coded : (F v : ℕ) {y : Read Instruction} → read (instruction F v) (left s l) ≡ value y
+      → read (by-code F v (code-taken l .field)) (left s (code-taken l .rest)) ≡ value y
   unfolding instruction
-  coded v e = next code 54 (by-code v) carries (lit≤ tt) (lit≤ tt) e
+  coded F v e = next code 54 (by-code F v) carries (lit≤ tt) (lit≤ tt) e
+
+  -- no greater code was read
+  pub code-known : (F v : ℕ) {y : Read Instruction} → read (instruction F v) (left s l) ≡ value y → code-taken l .field < 7
+  unfolding instruction
+  code-known F v e =
+      let a = first-of (entry code (left s l)) (λ x. read (by-code F v (x .got)) (x .left)) e in
+      let t = passed-test 3 (permitted code) (complaint code) (left s l) (a .was) .1 in
+      let k = entry-taken code (left s l) (a .was) in
+      let is = k .number-is ∙ sym (top s l 3 54 carries (lit≤ tt) (lit≤ tt) (k .there)) in
+      omega (arith, in-range 0 7 (a .first .got) t, is)
 
   -- what was read is i, and it ends at d
   pub decodes : {i : Instruction} (d : Loaded) {p : Cursor} → p ≡ place-of d → d .at ≡ l .at + wide i
-      → ((v : ℕ) (y : Read Instruction) → read (instruction v) (left s l) ≡ value y
+      → ((F v : ℕ) (y : Read Instruction) → read (instruction F v) (left s l) ≡ value y
       → record { got = i; left = left s d } ≡ y) → DecodesFrom s l i p
   decodes {i} d q w same =
       rw q
       (record {
         is =
             record {
-              decoded = λ v y e. (
-                ap (λ (z : Read Instruction). z .got) (same v y e),
-                ap (λ (z : Read Instruction). z .left) (same v y e),
+              decoded = λ F v y e. (
+                ap (λ (z : Read Instruction). z .got) (same F v y e),
+                ap (λ (z : Read Instruction). z .left) (same F v y e),
               );
               stands = w;
             };
@@ -94,9 +105,9 @@ module _ (s : List ℕ) (l : Loaded) (carries : Carries s l 57) where
     decoded-constant {k} none tk m q =
         rw (constant-kept carries (rw is-constant at m))
         (decodes (constant-taken l .rest) (rw is-constant at q) (omega arith)
-        (λ v y e. same-value
+        (λ F v y e. same-value
         (next constant 22 (λ n. done (Constant (twos-complement n))) (past-code carries) (lit≤ tt) (lit≤ tt)
-        (rw no-code at (coded v e)))))
+        (rw no-code at (coded F v e)))))
       where
         is-constant : k ≡ constant-taken l
         is-constant = tk ∙ ap (λ (t : Taken). taken 32 (t .rest)) tc
@@ -114,9 +125,9 @@ module _ (s : List ℕ) (l : Loaded) (carries : Carries s l 57) where
           let is-one : code-taken l .field ≡ 1 = rw tc at one in
           rw is-first
           (decodes (first-taken l .rest) (rw is-first at q) (omega arith)
-          (λ v y e. same-value
+          (λ F v y e. same-value
           (next (operand v) 44 (λ n. done (Negate n)) (past-code carries) (lit≤ tt) (lit≤ tt)
-          (rw is-one at (coded v e)))))
+          (rw is-one at (coded F v e)))))
 
       pub decoded-two : {j : Taken} {x : Instruction} {p : Cursor} → (c .field ≡ 0 → ⊥) → c .field < 5
           → (c .field ≡ 1 → ⊥) → j ≡ taken 10 (i .rest) → p ≡ place-of (j .rest) → x ≡ combined (c .field) (i .field) (j .field)
@@ -124,8 +135,8 @@ module _ (s : List ℕ) (l : Loaded) (carries : Carries s l 57) where
       decoded-two {j} {x} some few two tj q m =
           rw x-is
           (decodes (second-taken l .rest) (rw is-second at q) stands
-          (λ v y e.
-          let both = sym (by-code-two v (code-taken l .field) (left s (code-taken l .rest)) some' two' few') ∙ coded v e in
+          (λ F v y e.
+          let both = sym (by-code-two F v (code-taken l .field) (left s (code-taken l .rest)) some' two' few') ∙ coded F v e in
           let b = next (operand v) 44 (second v) (past-code carries) (lit≤ tt) (lit≤ tt) both in
           same-value (next (operand v) 34 (whole (first-taken l .field)) (past-first carries) (lit≤ tt) (lit≤ tt) b)))
         where

@@ -1,5 +1,5 @@
 -- An accepted formula is well formed: every operand names a smaller value, every output a value, every constant is
--- allowed. Assumes nothing.
+-- allowed, and reciprocals are for scales 0 to 16. Assumes nothing.
 use mathlib.Core.Path.{_≡_, refl, sym, ap, subst}
 use mathlib.Core.Bool.{Bool, true, false, cond, not}
 use mathlib.Core.List.{List}
@@ -13,6 +13,7 @@ use Rattle.refusals.specs.Answer.{Answer, value, refused}
 use Rattle.refusals.proofs.Answers.{no-value, same-value, first-of}
 use Rattle.rules.specs.Numbers.{M}
 use Rattle.rules.specs.Values.{Allowed}
+use Rattle.rules.specs.Reciprocals.{top-reciprocal-scale}
 use Rattle.bits.specs.Bits.{bits}
 use Rattle.bits.specs.Reader.{Read}
 use Rattle.bits.proofs.Digits.{AreBits, bits-are}
@@ -21,7 +22,7 @@ use Rattle.whole.proofs.Size.{size-gap}
 use Rattle.whole.proofs.Cases.{both, less}
 use Rattle.formulas.specs.declared.Header.{Header}
 use Rattle.formulas.specs.declared.Instruction.{Instruction}
-use Rattle.formulas.specs.declared.Instruction.the-variants.{Add, Subtract, Multiply}
+use Rattle.formulas.specs.declared.Instruction.the-variants.{Add, Subtract, Multiply, Reciprocal}
 use Rattle.packed.specs.Items.{FieldKind, scale, inputs, instructions, outputs, code, width, permitted, complaint}
 use Rattle.packed.specs.Items.{twos-complement, from-below, entry, Form, done, ask, read, _>>=_}
 use Rattle.packed.specs.Format.{header, two-operands, by-code, instruction, several, results}
@@ -98,24 +99,26 @@ constant-allowed c l t = by-sign (ltb c (2 ^ 31)) refl
         let near : 2 ^ 31 < c = less m (λ e. other (sym e)) in
         rw (twos-complement-high c m) (size-gap c (2 ^ 32) (omega arith) (omega arith))
 
-two-gives : (v : ℕ) (make : ℕ → ℕ → Instruction) → ((i j : ℕ) → i < v → j < v → Smaller v (make i j))
-    → Gives (Smaller v) (two-operands make v)
-two-gives v make small =
+two-gives : (F v : ℕ) (make : ℕ → ℕ → Instruction) → ((i j : ℕ) → i < v → j < v → Smaller F v (make i j))
+    → Gives (Smaller F v) (two-operands make v)
+two-gives F v make small =
     on-asking λ i ti li. on-asking λ j tj lj. at-once (small i j (in-range 0 v i ti .1) (in-range 0 v j tj .1))
 
-by-code-gives : (v code : ℕ) → Gives (Smaller v) (by-code v code)
+by-code-gives : (F v code : ℕ) → Gives (Smaller F v) (by-code F v code)
 unfolding by-code
-by-code-gives v zero = on-asking λ c t l. at-once (constant-allowed c l t)
-by-code-gives v (suc zero) = on-asking λ i t l. at-once (in-range 0 v i t .1)
-by-code-gives v (suc (suc zero)) = two-gives v Add (λ i j p q. (p, q))
-by-code-gives v (suc (suc (suc zero))) = two-gives v Subtract (λ i j p q. (p, q))
-by-code-gives v (suc (suc (suc (suc zero)))) = two-gives v Multiply (λ i j p q. (p, q))
-by-code-gives v (suc (suc (suc (suc (suc k))))) =
+by-code-gives F v zero = on-asking λ c t l. at-once (constant-allowed c l t)
+by-code-gives F v (suc zero) = on-asking λ i t l. at-once (in-range 0 v i t .1)
+by-code-gives F v (suc (suc zero)) = two-gives F v Add (λ i j p q. (p, q))
+by-code-gives F v (suc (suc (suc zero))) = two-gives F v Subtract (λ i j p q. (p, q))
+by-code-gives F v (suc (suc (suc (suc zero)))) = two-gives F v Multiply (λ i j p q. (p, q))
+by-code-gives F v (suc (suc (suc (suc (suc zero))))) =
     on-asking λ c t l. on-asking λ r u m. at-once (leb-true (natAbs (twos-complement c) + r) M u)
+by-code-gives F v (suc (suc (suc (suc (suc (suc k)))))) =
+    on-asking λ z t l. on-asking λ i u h. at-once {a = Reciprocal i} (leb-true F top-reciprocal-scale t, in-range 0 v i u .1)
 
-pub instruction-gives : (v : ℕ) → Gives (Smaller v) (instruction v)
+pub instruction-gives : (F v : ℕ) → Gives (Smaller F v) (instruction F v)
 unfolding instruction
-instruction-gives v = on-asking λ c t l. by-code-gives v c
+instruction-gives F v = on-asking λ c t l. by-code-gives F v c
 
 pub several-gives : {A : Type 0} {P : ℕ → A → Type 0} {f : ℕ → Form A} → ((v : ℕ) → Gives (P v) (f v)) → (k v : ℕ)
     → Gives (λ l. Each P v l × (length l ≡ k)) (several f k v)
@@ -130,7 +133,7 @@ results-give n v = several-gives {P = λ j o. o < v} (λ j. on-asking λ o t l. 
 body-gives : (h : Header) → InLimits h → Gives WellFormed (body h)
 unfolding body
 body-gives h limits =
-    gives-bind (several-gives instruction-gives (h .instructions) (h .inputs)) λ is p.
+    gives-bind (several-gives (instruction-gives (h .scale)) (h .instructions) (h .inputs)) λ is p.
     gives-bind (results-give (h .outputs) (h .inputs + h .instructions)) λ os q.
     at-once
     (record {

@@ -7,9 +7,10 @@ use lib.ListN.{length}
 use Rattle.bits.specs.Bits.{number}
 use Rattle.formulas.specs.declared.Header.{Header}
 use Rattle.formulas.specs.declared.Instruction.{Instruction}
-use Rattle.formulas.specs.declared.Instruction.the-variants.{Constant, Negate, Add, Subtract, Multiply, Coefficient}
+use Rattle.formulas.specs.declared.Instruction.the-variants.{Constant, Negate, Add, Subtract}
+use Rattle.formulas.specs.declared.Instruction.the-variants.{Multiply, Coefficient, Reciprocal}
 use Rattle.packed.specs.Items.{version, scale, inputs, instructions, outputs}
-use Rattle.packed.specs.Items.{code, constant, operand, centre, margin}
+use Rattle.packed.specs.Items.{code, constant, operand, centre, margin, small-scale}
 use Rattle.packed.specs.Items.{twos-complement, Form, done, item, _>>=_, _>>_}
 
 -- "Header, 32 bits: version .., scale .., inputs m .., instructions l .., outputs n"
@@ -36,25 +37,33 @@ with-margin = do
   r ← item (margin c)
   done (Coefficient (twos-complement c) r)
 
--- "then a constant .., or one operand .. (code 1), or two", or (code 5) a centre and a margin; operands "may name only
--- smaller values" than v, and 5 is the last permitted code
-unfoldable pub by-code : ℕ → ℕ → Form Instruction
-by-code v zero = do
+-- "16 .. right after the code, if the scale is over 16"; then "one operand"
+abbrev pub of-one-divided : ℕ → ℕ → Form Instruction
+of-one-divided F v = do
+  item (small-scale F)
+  i ← item (operand v)
+  done (Reciprocal i)
+
+-- "then a constant .., or one operand .. (code 1), or two", or (code 5) a centre and a margin, or (code 6) one operand;
+-- operands "may name only smaller values" than v, and 6 is the last permitted code
+unfoldable pub by-code : ℕ → ℕ → ℕ → Form Instruction
+by-code F v zero = do
   c ← item constant
   done (Constant (twos-complement c))
-by-code v (suc zero) = do
+by-code F v (suc zero) = do
   i ← item (operand v)
   done (Negate i)
-by-code v (suc (suc zero)) = two-operands Add v
-by-code v (suc (suc (suc zero))) = two-operands Subtract v
-by-code v (suc (suc (suc (suc zero)))) = two-operands Multiply v
-by-code v (suc (suc (suc (suc (suc k))))) = with-margin
+by-code F v (suc (suc zero)) = two-operands Add v
+by-code F v (suc (suc (suc zero))) = two-operands Subtract v
+by-code F v (suc (suc (suc (suc zero)))) = two-operands Multiply v
+by-code F v (suc (suc (suc (suc (suc zero))))) = with-margin
+by-code F v (suc (suc (suc (suc (suc (suc k)))))) = of-one-divided F v
 
--- "Each instruction: code 3; then .."; it makes value v
-unfoldable pub instruction : ℕ → Form Instruction
-instruction v = do
+-- "Each instruction: code 3; then .."; it makes value v of a formula of scale F
+unfoldable pub instruction : ℕ → ℕ → Form Instruction
+instruction F v = do
   c ← item code
-  by-code v c
+  by-code F v c
 
 -- so many bits it takes: "code 3", then "a constant of 32 bits", an "operand of 10 bits" each, or "32 bits of centre
 -- and 31 of margin"
@@ -65,6 +74,7 @@ wide (Add i j) = 3 + 10 + 10
 wide (Subtract i j) = 3 + 10 + 10
 wide (Multiply i j) = 3 + 10 + 10
 wide (Coefficient c r) = 3 + 32 + 31
+wide (Reciprocal i) = 3 + 10
 
 -- no instruction takes more
 abbrev pub widest : ℕ
@@ -83,8 +93,8 @@ several f (suc k) v = do
   done (a ∷ more)
 
 -- "instruction k, from 0, makes value m+k"
-abbrev pub program : ℕ → ℕ → Form (List Instruction)
-program l m = several instruction l m
+abbrev pub program : ℕ → ℕ → ℕ → Form (List Instruction)
+program F l m = several (instruction F) l m
 
 -- "Then n output fields of 10 bits, each naming a value below m+l."
 abbrev pub results : ℕ → ℕ → Form (List ℕ)

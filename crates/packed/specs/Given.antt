@@ -1,4 +1,5 @@
--- Document 01, "Numbered replies and their order", the column "Given exactly when", for refusals 1 to 8.
+-- Document 01, "Numbered replies and their order", the column "Given exactly when", for refusals 1 to 8; and request
+-- e's words for 16.
 use mathlib.Core.Path.{_≡_}
 use mathlib.Core.List.{List}
 use mathlib.Core.Logic.{_⊎_}
@@ -10,7 +11,7 @@ use Rattle.refusals.specs.Answer.{value}
 use Rattle.bits.specs.Bits.{bits, number}
 use Rattle.bits.specs.Reader.{Read}
 use Rattle.packed.specs.Items.{FieldKind, version, scale, inputs, instructions}
-use Rattle.packed.specs.Items.{outputs, code, constant, operand, centre, margin}
+use Rattle.packed.specs.Items.{outputs, code, constant, operand, centre, margin, small-scale}
 use Rattle.packed.specs.Items.{twos-complement, width, Form, ask, entry, read}
 use Rattle.formulas.specs.Formula.{Formula}
 use Rattle.packed.specs.Meaning.{whole}
@@ -26,20 +27,21 @@ pub data Comes {A : Type 0} : Form A → List ℕ → FieldKind → List ℕ →
 abbrev pub EndsInside : FieldKind → List ℕ → Type 0
 EndsInside k cs = length cs < width k
 
--- "the version isn't 1" · "the scale is over 30" · "m, l or n is outside its limits" · "the code is .. 6 or 7" · "a
+-- "the version isn't 1" · "the scale is over 30" · "m, l or n is outside its limits" · "the code is .. 7" · "a
 -- constant is −2^31" · "an operand or output names no permitted value" · "a reach over M", which that of −2^31 is with
--- every margin, so that no centre is wrong by itself
+-- every margin, so that no centre is wrong by itself · "the scale is over 16"
 abbrev pub Wrong : FieldKind → ℕ → Type 0
 Wrong version n = n ≡ 1 → ⊥
 Wrong scale n = 30 < n
 Wrong inputs n = 16 < n
 Wrong instructions n = 512 < n
 Wrong outputs n = (n < 1) ⊎ (16 < n)
-Wrong code n = 6 ≤ n
+Wrong code n = 7 ≤ n
 Wrong constant n = n ≡ 2 ^ 31
 Wrong (operand v) n = v ≤ n
 Wrong centre n = ⊥
 Wrong (margin c) n = M < natAbs (twos-complement c) + n
+Wrong (small-scale F) n = 16 < F
 
 -- the field is there, and its number is wrong
 abbrev pub HoldsWrong : FieldKind → List ℕ → Type 0
@@ -74,3 +76,4 @@ pub data Given (s : List ℕ) : ℕ → Type 0 where
   seven : Meets s constant HoldsWrong → Given s 7
   seven-margin : (c : ℕ) → Meets s (margin c) HoldsWrong → Given s 7
   eight : BadlyPadded s → Given s 8
+  sixteen : (F : ℕ) → Meets s (small-scale F) HoldsWrong → Given s 16

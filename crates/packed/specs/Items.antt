@@ -6,6 +6,7 @@ use Prim.Native.Nat.{ℕ, _+_, _^_}
 use lib.Dec.{leb, ltb, eqb}
 use lib.IntN.{ℤ, pos, natAbs, _-ℤ_}
 use Rattle.rules.specs.Numbers.{M}
+use Rattle.rules.specs.Reciprocals.{top-reciprocal-scale}
 use Rattle.refusals.specs.Answer.{value, then}
 use Rattle.bits.specs.Reader.{Reader, require, field}
 use Rattle.refusals.specs.declared.Refusal.{Refusal}
@@ -17,10 +18,11 @@ unfoldable pub twos-complement : ℕ → ℤ
 twos-complement c = cond (ltb c (2 ^ 31)) (pos c) (pos c -ℤ pos (2 ^ 32))
 
 -- a field of the header, a code, a constant, an operand or output that may name the values below v, or, of a constant
--- with a margin, the centre and the margin of the centre c
+-- with a margin, the centre and the margin of the centre c; of a reciprocal at scale F, "right after the code", the
+-- test of the scale, a field of no bits
 pub data FieldKind : Type 0 where
   version scale inputs instructions outputs code constant centre : FieldKind
-  operand margin : ℕ → FieldKind
+  operand margin small-scale : ℕ → FieldKind
 
 -- "version 7 .., scale 5, inputs m 5 .., instructions l 10 .., outputs n 5", "code 3", "a constant of 32 bits",
 -- "operand of 10 bits", "32 bits of centre and 31 of margin"
@@ -35,23 +37,25 @@ width constant = 32
 width (operand v) = 10
 width centre = 32
 width (margin c) = 31
+width (small-scale F) = 0
 
 abbrev pub from-below : ℕ → ℕ → ℕ → Bool
 from-below lo hi n = leb lo n && ltb n hi
 
--- "(must be 1)", "0 to 30", "(0 to 16)", "(0 to 512)", "(1 to 16)", not "6 or 7", "(−2^31 is not allowed)", "naming a
--- value below"; "a centre of −2^31, a reach over M .. tested after the margin field is read"
+-- "(must be 1)", "0 to 30", "(0 to 16)", "(0 to 512)", "(1 to 16)", not "7", "(−2^31 is not allowed)", "naming a value
+-- below"; "a centre of −2^31, a reach over M .. tested after the margin field is read"; "if the scale is over 16"
 abbrev pub permitted : FieldKind → ℕ → Bool
 permitted version = from-below 1 2
 permitted scale = from-below 0 31
 permitted inputs = from-below 0 17
 permitted instructions = from-below 0 513
 permitted outputs = from-below 1 17
-permitted code = from-below 0 6
+permitted code = from-below 0 7
 permitted constant = λ n. not (eqb n (2 ^ 31))
 permitted (operand v) = from-below 0 v
 permitted centre = λ c. true
 permitted (margin c) = λ r. leb (natAbs (twos-complement c) + r) M
+permitted (small-scale F) = λ n. leb F top-reciprocal-scale
 
 abbrev pub complaint : FieldKind → Refusal
 complaint version = refusal.Version
@@ -64,6 +68,7 @@ complaint constant = refusal.Constant
 complaint (operand v) = refusal.Operand
 complaint centre = refusal.Constant
 complaint (margin c) = refusal.Constant
+complaint (small-scale F) = refusal.ReciprocalScale
 
 -- a field of a width, with a test of its own
 unfoldable pub tested-field : ℕ → (ℕ → Bool) → Refusal → Reader ℕ

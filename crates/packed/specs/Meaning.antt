@@ -15,7 +15,7 @@ use Rattle.packed.specs.Format.{header, program, results, is-padding}
 -- what follows a header
 unfoldable pub body : Header → Form Formula
 body h = do
-  is ← program (h .instructions) (h .inputs)
+  is ← program (h .scale) (h .instructions) (h .inputs)
   os ← results (h .outputs) (h .inputs + h .instructions)
   done (record { header = h; program = is; results = os })
 

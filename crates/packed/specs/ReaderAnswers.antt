@@ -31,18 +31,22 @@ abbrev pub InstructionPast : Cursor → InstructionRead → Type 0
 InstructionPast c (instruction-read.Got i d) = d .at ≡ c .at + wide i
 InstructionPast c (instruction-read.Refused r) = Unit {0}
 
--- an instruction that makes value v was read
-pub record Instructed (s : List ℕ) (v : ℕ) (c : Cursor) (r : InstructionRead) : Type 0 where
-  pub answers : instruction-answer s r ≡ read (instruction v) (before s c)
+-- an instruction that makes value v of a formula of scale F was read
+pub record Instructed (s : List ℕ) (F v : ℕ) (c : Cursor) (r : InstructionRead) : Type 0 where
+  pub answers : instruction-answer s r ≡ read (instruction F v) (before s c)
   pub past : InstructionPast c r
 
 -- the same from where a loaded cursor stands
-pub record InstructedFrom (s : List ℕ) (v : ℕ) (l : Loaded) (r : InstructionRead) : Type 0 where
-  pub is : Instructed s v (place-of l) r
+pub record InstructedFrom (s : List ℕ) (F v : ℕ) (l : Loaded) (r : InstructionRead) : Type 0 where
+  pub is : Instructed s F v (place-of l) r
 
--- the same of an instruction that names no value, whichever value it makes
+-- the same of an instruction that is for every scale
+pub record ReadBelow (s : List ℕ) (v : ℕ) (l : Loaded) (r : InstructionRead) : Type 0 where
+  pub is : (F : ℕ) → InstructedFrom s F v l r
+
+-- and names no value, whichever value it makes
 pub record ReadFrom (s : List ℕ) (l : Loaded) (r : InstructionRead) : Type 0 where
-  pub is : (v : ℕ) → InstructedFrom s v l r
+  pub is : (v : ℕ) → ReadBelow s v l r
 
 -- the instruction that a code from 2 to 4 makes of two operands
 abbrev pub combined : ℕ → ℕ → ℕ → Instruction
@@ -105,6 +109,20 @@ pub record Beyond (s : List ℕ) (l : Loaded) : Type 0 where
   pub code-there : Reaches s (code-taken l .rest)
   pub from-five : 5 ≤ code-taken l .field
 
+-- a code 5 is there
+pub record Fifth (s : List ℕ) (l : Loaded) : Type 0 where
+  pub near : l .at ≤ 2 ^ 30
+  pub carries : Carries s l 57
+  pub code-there : Reaches s (code-taken l .rest)
+  pub is-five : code-taken l .field ≡ 5
+
+-- a code 6 is there
+pub record Sixth (s : List ℕ) (l : Loaded) : Type 0 where
+  pub near : l .at ≤ 2 ^ 30
+  pub carries : Carries s l 57
+  pub code-there : Reaches s (code-taken l .rest)
+  pub is-six : code-taken l .field ≡ 6
+
 -- a constant with a margin, both fields of which are there
 pub record WithMargin (s : List ℕ) (l : Loaded) : Type 0 where
   pub near : l .at ≤ 2 ^ 30
@@ -118,5 +136,5 @@ pub record IsCentred (s : List ℕ) (l : Loaded) (r : Centred) : Type 0 where
 
 -- whether the bytes end inside an operand before another refusal is due
 abbrev pub CutShort : List ℕ → ℕ → Loaded → Bool → Type 0
-CutShort s v l true = InstructedFrom s v l (instruction-read.Refused refusal.Ended)
+CutShort s v l true = ReadBelow s v l (instruction-read.Refused refusal.Ended)
 CutShort s v l false = Operands s v l

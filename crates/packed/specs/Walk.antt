@@ -15,13 +15,14 @@ use Rattle.packed.specs.Format.{instruction, wide}
 
 -- an instruction stands at the cursor
 pub record Readable (s : List ℕ) (c : Cursor) : Type 0 where
+  pub scale : ℕ
   pub below : ℕ
   pub all : Read Instruction
-  pub reads : read (instruction below) (before s c) ≡ value all
+  pub reads : read (instruction scale below) (before s c) ≡ value all
 
 -- i is that instruction, and d stands after it
 pub record Decodes (s : List ℕ) (c : Cursor) (i : Instruction) (d : Cursor) : Type 0 where
-  pub decoded : (v : ℕ) (x : Read Instruction) → read (instruction v) (before s c) ≡ value x
+  pub decoded : (F v : ℕ) (x : Read Instruction) → read (instruction F v) (before s c) ≡ value x
       → (i ≡ x .got) × (before s d ≡ x .left)
   pub stands : d .at ≡ c .at + wide i
 

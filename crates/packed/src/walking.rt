@@ -28,6 +28,13 @@ pub fn decode_ahead(s: &[u8], l: Loaded) -> Decoded
         };
     }
     if 5 <= code.field {
+        if code.field == 6 {
+            let divisor = code.rest.operand();
+            return Decoded {
+                instruction: Instruction::Reciprocal(divisor.field as usize),
+                next: divisor.rest.place(),
+            };
+        }
         let both = gather(s, l);
         return Decoded {
             instruction: Instruction::Coefficient(both.centre, both.margin),

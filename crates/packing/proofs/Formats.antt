@@ -8,10 +8,11 @@ use lib.IntN.{ℤ, pos, negsuc, natAbs}
 use lib.ListN.{length}
 use Rattle.rules.specs.Numbers.{M}
 use Rattle.rules.specs.Values.{Allowed}
+use Rattle.rules.specs.Reciprocals.{top-reciprocal-scale}
 use Rattle.formulas.specs.declared.Header.{Header}
 use Rattle.formulas.specs.declared.Instruction.{Instruction}
-use Rattle.formulas.specs.declared.Instruction.the-variants.{Constant, Negate, Add, Subtract, Multiply, Coefficient}
-use Rattle.packed.specs.Items.{scale, inputs, instructions, outputs, code, constant, operand, centre, margin, version, twos-complement, Form, done, item, _>>=_}
+use Rattle.formulas.specs.declared.Instruction.the-variants.{Constant, Negate, Add, Subtract, Multiply, Coefficient, Reciprocal}
+use Rattle.packed.specs.Items.{scale, inputs, instructions, outputs, code, constant, operand, centre, margin, small-scale, version, twos-complement, Form, done, item, _>>=_}
 use Rattle.packed.specs.Format.{header, by-code, instruction, several, program, results}
 use Rattle.packed.specs.Meaning.{body, whole}
 use Rattle.lists.specs.Each.{Each, none, one}
@@ -26,8 +27,8 @@ use Rattle.packing.proofs.Forms.{Fit, Asks, nothing, next, asks-bind, T
 
 -- ---- numbers that fit
 
-fit-code : (n : ℕ) → n < 6 → Fit code (pos n)
-fit-code n l = let t = between 0 6 n (omega arith) l in record { fit = t; may = t; narrow = omega arith }
+fit-code : (n : ℕ) → n < 7 → Fit code (pos n)
+fit-code n l = let t = between 0 7 n (omega arith) l in record { fit = t; may = t; narrow = omega arith }
 
 fit-operand : (v i : ℕ) → v ≤ 1024 → i < v → Fit (operand v) (pos i)
 fit-operand v i h l = let t = between 0 v i (omega arith) l in record { fit = t; may = t; narrow = omega arith }
@@ -59,6 +60,9 @@ fit-margin c r l =
     let t = le-leb (natAbs (twos-complement (encoded c)) + r) M (rw (twos-complement-encoded c (omega arith)) l) in
     record { fit = t; may = t; narrow = omega arith }
 
+fit-scale : (F : ℕ) → F ≤ top-reciprocal-scale → Fit (small-scale F) (pos 0)
+fit-scale F l = let t = le-leb F top-reciprocal-scale l in record { fit = t; may = t; narrow = omega arith }
+
 -- ---- the format asks for the fields
 
 header-asks : (h : Header) → InLimits h → Asks header (header-slots (pos (h .scale)) (pos (h .inputs)) (pos (h .instructions)) (h .outputs)) h
@@ -83,18 +87,20 @@ header-asks h l = next the-version (next the-scale (next the-inputs (next the-in
     the-outputs = let t = between 1 17 (h .outputs) (l .some-output) (omega (arith, l .outputs-few)) in record { fit = t; may = t; narrow = omega (arith, l .outputs-few) }
 
 -- one case for each instruction
-instruction-asks : (v : ℕ) → v ≤ 1024 → (i : Instruction) → Smaller v i → Asks (instruction v) (instruction-slots v (raw-of i)) i
+instruction-asks : (F v : ℕ) → v ≤ 1024 → (i : Instruction) → Smaller F v i → Asks (instruction F v) (instruction-slots F v (raw-of i)) i
 unfolding instruction by-code
-instruction-asks v h (Constant c) a =
+instruction-asks F v h (Constant c) a =
     next (fit-code 0 (omega arith)) (next (fit-constant c a)
     (subst (λ (z : ℤ). Asks (done (Constant (twos-complement (encoded c)))) [] (Constant z)) (twos-complement-encoded c a) nothing))
-instruction-asks v h (Negate i) l = next (fit-code 1 (omega arith)) (next (fit-operand v i h l) nothing)
-instruction-asks v h (Add i j) l = next (fit-code 2 (omega arith)) (next (fit-operand v i h (l .0)) (next (fit-operand v j h (l .1)) nothing))
-instruction-asks v h (Subtract i j) l = next (fit-code 3 (omega arith)) (next (fit-operand v i h (l .0)) (next (fit-operand v j h (l .1)) nothing))
-instruction-asks v h (Multiply i j) l = next (fit-code 4 (omega arith)) (next (fit-operand v i h (l .0)) (next (fit-operand v j h (l .1)) nothing))
-instruction-asks v h (Coefficient c r) l =
+instruction-asks F v h (Negate i) l = next (fit-code 1 (omega arith)) (next (fit-operand v i h l) nothing)
+instruction-asks F v h (Add i j) l = next (fit-code 2 (omega arith)) (next (fit-operand v i h (l .0)) (next (fit-operand v j h (l .1)) nothing))
+instruction-asks F v h (Subtract i j) l = next (fit-code 3 (omega arith)) (next (fit-operand v i h (l .0)) (next (fit-operand v j h (l .1)) nothing))
+instruction-asks F v h (Multiply i j) l = next (fit-code 4 (omega arith)) (next (fit-operand v i h (l .0)) (next (fit-operand v j h (l .1)) nothing))
+instruction-asks F v h (Coefficient c r) l =
     next (fit-code 5 (omega arith)) (next (fit-centre c (omega arith)) (next (fit-margin c r l)
     (subst (λ (z : ℤ). Asks (done (Coefficient (twos-complement (encoded c)) r)) [] (Coefficient z r)) (twos-complement-encoded c (omega arith)) nothing)))
+instruction-asks F v h (Reciprocal i) l =
+    next (fit-code 6 (omega arith)) (next (fit-scale F (l .0)) (next (fit-operand v i h (l .1)) nothing))
 
 several-asks : {A B : Type 0} {P : ℕ → A → Type 0} (f : ℕ → Form A) (s : ℕ → B → List Slot) (conv : A → B) (top : ℕ)
     → ((u : ℕ) → u < top → (a : A) → P u a → Asks (f u) (s u (conv a)) a)
@@ -106,7 +112,7 @@ several-asks f s conv top h (one {v} {a} {more} p q) n =
     (subst (λ (ss : List Slot). Asks (several f (length more) (suc v) >>= λ rest. done (a ∷ rest)) ss (a ∷ more)) (append-nil (several-slots s (suc v) (map conv more)))
     (asks-bind (λ rest. done (a ∷ rest)) (several-asks f s conv top h q (omega arith)) nothing))
 
-body-asks : (f : Formula) → WellFormed f → Asks (body (f .header)) (program-slots (f .header .inputs) (map raw-of (f .program)) ++ result-slots (places (f .header)) (map pos (f .results))) f
+body-asks : (f : Formula) → WellFormed f → Asks (body (f .header)) (program-slots (f .header .scale) (f .header .inputs) (map raw-of (f .program)) ++ result-slots (places (f .header)) (map pos (f .results))) f
 unfolding body
 body-asks f w =
     asks-bind (λ is. results (f .header .outputs) v >>= λ os. done (record { header = f .header; program = is; results = os })) the-program
@@ -120,10 +126,10 @@ body-asks f w =
     small : v ≤ 528
     small = omega (arith, w .limits .inputs-few, w .limits .instructions-few)
 
-    the-program : Asks (program (f .header .instructions) (f .header .inputs)) (several-slots instruction-slots (f .header .inputs) (map raw-of (f .program))) (f .program)
+    the-program : Asks (program (f .header .scale) (f .header .instructions) (f .header .inputs)) (several-slots (instruction-slots (f .header .scale)) (f .header .inputs) (map raw-of (f .program))) (f .program)
     the-program =
-        subst (λ (n : ℕ). Asks (program n (f .header .inputs)) (several-slots instruction-slots (f .header .inputs) (map raw-of (f .program))) (f .program)) (w .program-long)
-        (several-asks instruction instruction-slots raw-of v (λ u l i p. instruction-asks u (omega (arith, small)) i p) (w .operands-smaller) (omega (arith, w .program-long)))
+        subst (λ (n : ℕ). Asks (program (f .header .scale) n (f .header .inputs)) (several-slots (instruction-slots (f .header .scale)) (f .header .inputs) (map raw-of (f .program))) (f .program)) (w .program-long)
+        (several-asks (instruction (f .header .scale)) (instruction-slots (f .header .scale)) raw-of v (λ u l i p. instruction-asks (f .header .scale) u (omega (arith, small)) i p) (w .operands-smaller) (omega (arith, w .program-long)))
 
     the-results : Asks (results (f .header .outputs) v) (several-slots (output-slots v) 0 (map pos (f .results))) (f .results)
     the-results =
@@ -144,21 +150,26 @@ header-tells = λ v tv lv F tF lF m tm lm l tl ll n tn ln. ap (λ (x : ℕ). slo
     is-one v h = omega arith
 
 -- one case for each code
-by-code-tells : (v c : ℕ) → c < 6 → Tells (λ ss i. slot code (pos c) ∷ ss ≡ instruction-slots v (raw-of i)) (by-code v c)
+by-code-tells : (F v c : ℕ) → c < 7 → Tells (λ ss i. slot code (pos c) ∷ ss ≡ instruction-slots F v (raw-of i)) (by-code F v c)
 unfolding by-code
-by-code-tells v zero h = λ n t l. refl
-by-code-tells v (suc zero) h = λ i t l. refl
-by-code-tells v (suc (suc zero)) h = λ i t l j u k. refl
-by-code-tells v (suc (suc (suc zero))) h = λ i t l j u k. refl
-by-code-tells v (suc (suc (suc (suc zero)))) h = λ i t l j u k. refl
-by-code-tells v (suc (suc (suc (suc (suc zero))))) h =
+by-code-tells F v zero h = λ n t l. refl
+by-code-tells F v (suc zero) h = λ i t l. refl
+by-code-tells F v (suc (suc zero)) h = λ i t l j u k. refl
+by-code-tells F v (suc (suc (suc zero))) h = λ i t l j u k. refl
+by-code-tells F v (suc (suc (suc (suc zero)))) h = λ i t l j u k. refl
+by-code-tells F v (suc (suc (suc (suc (suc zero))))) h =
     λ c t l r u k. ap (λ (n : ℕ). slot code (pos 5) ∷ slot centre (twos-complement c) ∷ slot (margin n) (pos r) ∷ [])
     (sym (encoded-twos-complement c l))
-by-code-tells v (suc (suc (suc (suc (suc (suc c)))))) h = absurd (omega arith)
+by-code-tells F v (suc (suc (suc (suc (suc (suc zero)))))) h =
+    λ z t l i u k. ap (λ (n : ℕ). slot code (pos 6) ∷ slot (small-scale F) (pos n) ∷ slot (operand v) (pos i) ∷ []) (no-bits z l)
+  where
+    no-bits : (z : ℕ) → z < 1 → z ≡ 0
+    no-bits z l = omega arith
+by-code-tells F v (suc (suc (suc (suc (suc (suc (suc c))))))) h = absurd (omega arith)
 
-instruction-tells : (v : ℕ) → Tells (λ ss i. ss ≡ instruction-slots v (raw-of i)) (instruction v)
+instruction-tells : (F v : ℕ) → Tells (λ ss i. ss ≡ instruction-slots F v (raw-of i)) (instruction F v)
 unfolding instruction
-instruction-tells v = λ c t l. by-code-tells v c (in-range 0 6 c t .1)
+instruction-tells F v = λ c t l. by-code-tells F v c (in-range 0 7 c t .1)
 
 several-tells : {A B : Type 0} (f : ℕ → Form A) (s : ℕ → B → List Slot) (conv : A → B) → ((u : ℕ) → Tells (λ ss a. ss ≡ s u (conv a)) (f u))
     → (k v : ℕ) → Tells (λ ss l. ss ≡ several-slots s v (map conv l)) (several f k v)
@@ -172,7 +183,7 @@ several-tells {A} f s conv h (suc k) v =
 body-tells : (h : Header) → Tells (λ ss f. header-slots (pos (h .scale)) (pos (h .inputs)) (pos (h .instructions)) (h .outputs) ++ ss ≡ fields-of f) (body h)
 unfolding body fields-of
 body-tells h =
-    tells-bind (λ ss is. ss ≡ several-slots instruction-slots (h .inputs) (map raw-of is)) _ (program (h .instructions) (h .inputs)) _ (several-tells instruction instruction-slots raw-of instruction-tells (h .instructions) (h .inputs)) (λ ss is p.
+    tells-bind (λ ss is. ss ≡ several-slots (instruction-slots (h .scale)) (h .inputs) (map raw-of is)) _ (program (h .scale) (h .instructions) (h .inputs)) _ (several-tells (instruction (h .scale)) (instruction-slots (h .scale)) raw-of (instruction-tells (h .scale)) (h .instructions) (h .inputs)) (λ ss is p.
     tells-bind (λ ts os. ts ≡ several-slots (output-slots v) 0 (map pos os)) _ (results (h .outputs) v) (λ os. done (record { header = h; program = is; results = os })) (several-tells (λ j. item (operand v)) (output-slots v) pos (λ u o t l. refl) (h .outputs) 0) (λ ts os q.
     ap₂ (λ (x y : List Slot). header-slots (pos (h .scale)) (pos (h .inputs)) (pos (h .instructions)) (h .outputs) ++ (x ++ y)) p (append-nil ts ∙ q)))
   where

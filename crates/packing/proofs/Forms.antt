@@ -19,7 +19,7 @@ use Rattle.bits.specs.Reader.{Read, field}
 use Rattle.bits.proofs.Digits.{AreBits, are-bits-take, length-to-bits, number-to-bits}
 use Rattle.bits.proofs.Take.{field-got, field-whole}
 use Rattle.refusals.specs.Refusals.{refusal-number}
-use Rattle.packed.specs.Items.{FieldKind, version, scale, inputs, instructions, outputs, code, constant, operand, centre, margin}
+use Rattle.packed.specs.Items.{FieldKind, version, scale, inputs, instructions, outputs, code, constant, operand, centre, margin, small-scale}
 use Rattle.packed.specs.Items.{twos-complement, width, permitted, complaint, entry, Form, done, ask, read, _>>=_}
 use Rattle.packed.proofs.Instructions.{twos-complement-low, twos-complement-high}
 use Rattle.packed.proofs.FieldIn.{test-passed, passed-test}
@@ -120,6 +120,7 @@ width-most constant = omega arith
 width-most (operand v) = omega arith
 width-most centre = omega arith
 width-most (margin c) = omega arith
+width-most (small-scale F) = omega arith
 
 pub encoded-meant : (k : FieldKind) (n : ℕ) → n < 2 ^ width k → encoded (stands-for k n) ≡ n
 encoded-meant k n l = by-sort (sort k)

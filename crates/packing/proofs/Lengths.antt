@@ -26,24 +26,25 @@ pub width-append : (ss ts : List Slot) → slots-width (ss ++ ts) ≡ slots-widt
 width-append [] ts = omega arith
 width-append (s ∷ ss) ts = omega (arith, width-append ss ts)
 
-pub instruction-wide : (v : ℕ) (c a b : ℤ) → slots-width (instruction-slots v (raw c a b)) ≤ widest
-instruction-wide v (pos zero) a b = omega arith
-instruction-wide v (pos (suc zero)) a b = omega arith
-instruction-wide v (pos (suc (suc zero))) a b = omega arith
-instruction-wide v (pos (suc (suc (suc zero)))) a b = omega arith
-instruction-wide v (pos (suc (suc (suc (suc zero))))) a b = omega arith
-instruction-wide v (pos (suc (suc (suc (suc (suc zero)))))) a b = omega arith
-instruction-wide v (pos (suc (suc (suc (suc (suc (suc k))))))) a b = omega arith
-instruction-wide v (negsuc k) a b = omega arith
+pub instruction-wide : (F v : ℕ) (c a b : ℤ) → slots-width (instruction-slots F v (raw c a b)) ≤ widest
+instruction-wide F v (pos zero) a b = omega arith
+instruction-wide F v (pos (suc zero)) a b = omega arith
+instruction-wide F v (pos (suc (suc zero))) a b = omega arith
+instruction-wide F v (pos (suc (suc (suc zero)))) a b = omega arith
+instruction-wide F v (pos (suc (suc (suc (suc zero))))) a b = omega arith
+instruction-wide F v (pos (suc (suc (suc (suc (suc zero)))))) a b = omega arith
+instruction-wide F v (pos (suc (suc (suc (suc (suc (suc zero))))))) a b = omega arith
+instruction-wide F v (pos (suc (suc (suc (suc (suc (suc (suc k)))))))) a b = omega arith
+instruction-wide F v (negsuc k) a b = omega arith
 
-pub program-wide : (m : ℕ) (rs : List RawInstruction) → slots-width (program-slots m rs) ≤ widest * length rs
-program-wide m [] = omega arith
-program-wide m (r ∷ rs) =
+pub program-wide : (F m : ℕ) (rs : List RawInstruction) → slots-width (program-slots F m rs) ≤ widest * length rs
+program-wide F m [] = omega arith
+program-wide F m (r ∷ rs) =
     omega (
       arith,
-      width-append (instruction-slots m r) (program-slots (suc m) rs),
-      instruction-wide m (r .code) (r .first) (r .second),
-      program-wide (suc m) rs,
+      width-append (instruction-slots F m r) (program-slots F (suc m) rs),
+      instruction-wide F m (r .code) (r .first) (r .second),
+      program-wide F (suc m) rs,
     )
 
 pub results-wide : (v j : ℕ) (os : List ℤ) → slots-width (several-slots (output-slots v) j os) ≡ 10 * length os
@@ -58,13 +59,13 @@ packed-long f = length-bytes-of (slots-bits (fields-of f)) ∙ ap whole-bytes (l
 pub packed-few : (f : Formula) → WellFormed f → length (packed-bytes f) ≤ 4248
 unfolding fields-of
 packed-few f w =
-    let program = program-slots (f .header .inputs) (map raw-of (f .program)) in
+    let program = program-slots (f .header .scale) (f .header .inputs) (map raw-of (f .program)) in
     let results = result-slots (places (f .header)) (map pos (f .results)) in
     omega (
       arith,
       packed-long f,
       width-append program results,
-      program-wide (f .header .inputs) (map raw-of (f .program)),
+      program-wide (f .header .scale) (f .header .inputs) (map raw-of (f .program)),
       results-wide (places (f .header)) 0 (map pos (f .results)),
       length-map (f .program) raw-of,
       length-map (f .results) pos,

@@ -14,13 +14,13 @@ use Rattle.refusals.specs.Answer.{Answer, value, refused, refuse, then}
 use Rattle.refusals.proofs.Answers.{no-value, refused-same}
 use Rattle.rules.specs.Numbers.{M}
 use Rattle.formulas.specs.Formula.{Formula}
-use Rattle.packed.specs.Items.{FieldKind, version, scale, inputs, instructions, outputs, code, constant, operand, centre, margin, complaint}
+use Rattle.packed.specs.Items.{FieldKind, version, scale, inputs, instructions, outputs, code, constant, operand, centre, margin, small-scale, complaint}
 use Rattle.packed.proofs.GivenExactly.{wrong-is, wrong-not-permitted}
 use Rattle.packing.specs.Raw.{RawFormula, formula-of}
 use Rattle.packing.specs.Slots.{Slot, slot, raw-slots, packed-bytes}
 use Rattle.packing.specs.Packing.{Sort, fixed, natural, signed, sort, fits-as, fits, slots-tested, pack, pack-into}
 use Rattle.packing.specs.GivenInPacking.{UnfitAs, Unfit, MeetsUnfit, GivenInPacking}
-use Rattle.packing.specs.GivenInPacking.{three, four, five, six, seven, seven-margin, ten}
+use Rattle.packing.specs.GivenInPacking.{three, four, five, six, seven, seven-margin, ten, sixteen}
 
 -- ---- a number is unfit exactly where it does not fit
 
@@ -120,6 +120,7 @@ module _ (room : ℕ) (r : RawFormula) where
   given-refused (seven (inl m)) = short (meets-refused r m)
   given-refused (seven (inr m)) = short (meets-refused r m)
   given-refused (seven-margin c m) = short (meets-refused r m)
+  given-refused (sixteen F m) = short (meets-refused r m)
   given-refused (ten l) = no-room (l .packs) (lt-leb (length (packed-bytes (l .accepted))) room (l .longer))
 
   of-kind : {n : ℕ} (k : FieldKind) → MeetsUnfit r k → refusal-number (complaint k) ≡ n → GivenInPacking room r n
@@ -133,6 +134,7 @@ module _ (room : ℕ) (r : RawFormula) where
   of-kind centre m e = subst (GivenInPacking room r) e (seven (inr m))
   of-kind (margin c) m e = subst (GivenInPacking room r) e (seven-margin c m)
   of-kind (operand v) m e = subst (GivenInPacking room r) e (six v m)
+  of-kind (small-scale F) m e = subst (GivenInPacking room r) e (sixteen F m)
 
   tested-given : {n : ℕ} → slots-tested (raw-slots r) ≡ refused n → GivenInPacking room r n
   tested-given e =

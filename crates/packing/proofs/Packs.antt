@@ -11,9 +11,10 @@ use lib.IntN.{ℤ, pos, negsuc, natAbs}
 use lib.ListN.{length, length-map}
 use Rattle.whole.proofs.Cases.{never}
 use Rattle.rules.specs.Numbers.{M}
+use Rattle.rules.specs.Reciprocals.{top-reciprocal-scale}
 use Rattle.refusals.specs.Answer.{Answer, value, refused, refuse, then}
 use Rattle.formulas.specs.declared.Instruction.{Instruction}
-use Rattle.formulas.specs.declared.Instruction.the-variants.{Constant, Negate, Add, Subtract, Multiply, Coefficient}
+use Rattle.formulas.specs.declared.Instruction.the-variants.{Constant, Negate, Add, Subtract, Multiply, Coefficient, Reciprocal}
 use Rattle.packed.specs.Items.{FieldKind, scale, inputs, instructions, outputs, code, operand, margin, twos-complement, permitted}
 use Rattle.packed.specs.Items.{complaint}
 use Rattle.lists.specs.Each.{Each, none, one}
@@ -66,33 +67,33 @@ is-natural k (pos n) e = record { is = refl; may = e }
 is-natural k (negsuc n) e = never (sym e)
 
 -- an instruction whose fields passed is well formed, and handed over it is what was handed over: one case for each code
-pub record Makes (v : ℕ) (c a b : ℤ) : Type 0 where
-  pub smaller : Smaller v (made-of c a b)
+pub record Makes (F v : ℕ) (c a b : ℤ) : Type 0 where
+  pub smaller : Smaller F v (made-of c a b)
   pub again : raw-of (made-of c a b) ≡ raw c a (own-second c b)
 
 pub below : (v : ℕ) (z : ℤ) → fits-as natural (operand v) z ≡ true → natAbs z < v
 below v z e = in-range 0 v (natAbs z) (is-natural (operand v) z e .may) .1
 
-made-makes : (v : ℕ) (c a b : ℤ) → AllFit (slot code c ∷ argument-slots v c a b) → Makes v c a b
-made-makes v (pos zero) a b h = record { smaller = leb-true (natAbs a) M (h .1 .0); again = refl }
-made-makes v (pos (suc zero)) a b h =
+made-makes : (F v : ℕ) (c a b : ℤ) → AllFit (slot code c ∷ argument-slots F v c a b) → Makes F v c a b
+made-makes F v (pos zero) a b h = record { smaller = leb-true (natAbs a) M (h .1 .0); again = refl }
+made-makes F v (pos (suc zero)) a b h =
     record { smaller = below v a (h .1 .0); again = ap (λ (x : ℤ). raw (pos 1) x (pos 0)) (is-natural (operand v) a (h .1 .0) .is) }
-made-makes v (pos (suc (suc zero))) a b h =
+made-makes F v (pos (suc (suc zero))) a b h =
     record {
       smaller = (below v a (h .1 .0), below v b (h .1 .1 .0));
       again = ap₂ (raw (pos 2)) (is-natural (operand v) a (h .1 .0) .is) (is-natural (operand v) b (h .1 .1 .0) .is);
     }
-made-makes v (pos (suc (suc (suc zero)))) a b h =
+made-makes F v (pos (suc (suc (suc zero)))) a b h =
     record {
       smaller = (below v a (h .1 .0), below v b (h .1 .1 .0));
       again = ap₂ (raw (pos 3)) (is-natural (operand v) a (h .1 .0) .is) (is-natural (operand v) b (h .1 .1 .0) .is);
     }
-made-makes v (pos (suc (suc (suc (suc zero))))) a b h =
+made-makes F v (pos (suc (suc (suc (suc zero))))) a b h =
     record {
       smaller = (below v a (h .1 .0), below v b (h .1 .1 .0));
       again = ap₂ (raw (pos 4)) (is-natural (operand v) a (h .1 .0) .is) (is-natural (operand v) b (h .1 .1 .0) .is);
     }
-made-makes v (pos (suc (suc (suc (suc (suc zero)))))) a b h =
+made-makes F v (pos (suc (suc (suc (suc (suc zero)))))) a b h =
     let q = is-natural (margin (encoded a)) b (h .1 .1 .0) in
     record {
       smaller =
@@ -100,16 +101,21 @@ made-makes v (pos (suc (suc (suc (suc (suc zero)))))) a b h =
           (leb-true (natAbs (twos-complement (encoded a)) + natAbs b) M (q .may));
       again = ap (raw (pos 5) a) (q .is);
     }
-made-makes v (pos (suc (suc (suc (suc (suc (suc k))))))) a b h =
-    absurd (let l = in-range 0 6 (suc (suc (suc (suc (suc (suc k)))))) (h .0) .1 in omega arith)
-made-makes v (negsuc k) a b h = never (sym (h .0))
+made-makes F v (pos (suc (suc (suc (suc (suc (suc zero))))))) a b h =
+    record {
+      smaller = (leb-true F top-reciprocal-scale (h .1 .0), below v a (h .1 .1 .0));
+      again = ap (λ (x : ℤ). raw (pos 6) x (pos 0)) (is-natural (operand v) a (h .1 .1 .0) .is);
+    }
+made-makes F v (pos (suc (suc (suc (suc (suc (suc (suc k)))))))) a b h =
+    absurd (let l = in-range 0 7 (suc (suc (suc (suc (suc (suc (suc k))))))) (h .0) .1 in omega arith)
+made-makes F v (negsuc k) a b h = never (sym (h .0))
 
-program-makes : (v : ℕ) (rs : List RawInstruction) → AllFit (program-slots v rs) → Each Smaller v (map instruction-of rs) × (map raw-of (map instruction-of rs) ≡ map own rs)
-program-makes v [] h = (none, refl)
-program-makes v (r ∷ rs) h =
-    let q = all-apart (instruction-slots v r) (program-slots (suc v) rs) h in
-    let i = made-makes v (r .code) (r .first) (r .second) (q .0) in
-    let more = program-makes (suc v) rs (q .1) in
+program-makes : (F v : ℕ) (rs : List RawInstruction) → AllFit (program-slots F v rs) → Each (Smaller F) v (map instruction-of rs) × (map raw-of (map instruction-of rs) ≡ map own rs)
+program-makes F v [] h = (none, refl)
+program-makes F v (r ∷ rs) h =
+    let q = all-apart (instruction-slots F v r) (program-slots F (suc v) rs) h in
+    let i = made-makes F v (r .code) (r .first) (r .second) (q .0) in
+    let more = program-makes F (suc v) rs (q .1) in
     (one (i .smaller) (more .0), ap₂ (λ (x : RawInstruction) (xs : List RawInstruction). x ∷ xs) (i .again) (more .1))
 
 results-make : (v j : ℕ) (os : List ℤ) → AllFit (several-slots (output-slots v) j os) → Each (λ j o. o < v) j (map natAbs os) × (map pos (map natAbs os) ≡ os)
@@ -124,22 +130,31 @@ map-same f g h (a ∷ l) = ap₂ (λ (x : _) (xs : List _). x ∷ xs) (h a) (map
 
 -- ---- what a code leaves alone is neither encoded nor instruction-of into anything: one case for each code
 
-own-slots : (v : ℕ) (c a b : ℤ) → argument-slots v c a (own-second c b) ≡ argument-slots v c a b
-own-slots v (pos zero) a b = refl
-own-slots v (pos (suc zero)) a b = refl
-own-slots v (pos (suc (suc k))) a b = refl
-own-slots v (negsuc k) a b = refl
+own-slots : (F v : ℕ) (c a b : ℤ) → argument-slots F v c a (own-second c b) ≡ argument-slots F v c a b
+own-slots F v (pos zero) a b = refl
+own-slots F v (pos (suc zero)) a b = refl
+own-slots F v (pos (suc (suc zero))) a b = refl
+own-slots F v (pos (suc (suc (suc zero)))) a b = refl
+own-slots F v (pos (suc (suc (suc (suc zero))))) a b = refl
+own-slots F v (pos (suc (suc (suc (suc (suc zero)))))) a b = refl
+own-slots F v (pos (suc (suc (suc (suc (suc (suc zero))))))) a b = refl
+own-slots F v (pos (suc (suc (suc (suc (suc (suc (suc k)))))))) a b = refl
+own-slots F v (negsuc k) a b = refl
 
 own-made : (c a b : ℤ) → made-of c a (own-second c b) ≡ made-of c a b
 own-made (pos zero) a b = refl
 own-made (pos (suc zero)) a b = refl
-own-made (pos (suc (suc k))) a b = refl
+own-made (pos (suc (suc zero))) a b = refl
+own-made (pos (suc (suc (suc zero)))) a b = refl
+own-made (pos (suc (suc (suc (suc zero))))) a b = refl
+own-made (pos (suc (suc (suc (suc (suc zero)))))) a b = refl
+own-made (pos (suc (suc (suc (suc (suc (suc k))))))) a b = refl
 own-made (negsuc k) a b = refl
 
-own-program : (v : ℕ) (rs : List RawInstruction) → program-slots v (map own rs) ≡ program-slots v rs
-own-program v [] = refl
-own-program v (r ∷ rs) =
-    ap₂ (λ (x y : List Slot). slot code (r .code) ∷ (x ++ y)) (own-slots v (r .code) (r .first) (r .second)) (own-program (suc v) rs)
+own-program : (F v : ℕ) (rs : List RawInstruction) → program-slots F v (map own rs) ≡ program-slots F v rs
+own-program F v [] = refl
+own-program F v (r ∷ rs) =
+    ap₂ (λ (x y : List Slot). slot code (r .code) ∷ (x ++ y)) (own-slots F v (r .code) (r .first) (r .second)) (own-program F (suc v) rs)
 
 own-makes : (rs : List RawInstruction) → map instruction-of (map own rs) ≡ map instruction-of rs
 own-makes [] = refl
@@ -153,7 +168,7 @@ unfolding raw-slots
 own-raw-slots r =
     λ i.
     header-slots (r .scale) (r .inputs) (own-count r i) (length (r .results))
-    ++ (own-program (natAbs (r .inputs)) (r .program) i
+    ++ (own-program (natAbs (r .scale)) (natAbs (r .inputs)) (r .program) i
     ++ result-slots (natAbs (r .inputs) + length-map (r .program) own i) (r .results))
 
 pub own-formula-of : (r : RawFormula) → formula-of (own-formula r) ≡ formula-of r
@@ -206,16 +221,16 @@ fit-accepted r h = record { well-formed = formed; same = again; fields = slots }
     l = counted r (h .1 .1 .1 .0)
 
     parts :
-        AllFit (program-slots (natAbs (r .inputs)) (r .program))
+        AllFit (program-slots (natAbs (r .scale)) (natAbs (r .inputs)) (r .program))
         × AllFit (result-slots (natAbs (r .inputs) + length (r .program)) (r .results))
     parts =
-        all-apart (program-slots (natAbs (r .inputs)) (r .program))
+        all-apart (program-slots (natAbs (r .scale)) (natAbs (r .inputs)) (r .program))
         (result-slots (natAbs (r .inputs) + length (r .program)) (r .results)) (h .1 .1 .1 .1 .1)
 
     the-program :
-        Each Smaller (natAbs (r .inputs)) (map instruction-of (r .program))
+        Each (Smaller (natAbs (r .scale))) (natAbs (r .inputs)) (map instruction-of (r .program))
         × (map raw-of (map instruction-of (r .program)) ≡ map own (r .program))
-    the-program = program-makes (natAbs (r .inputs)) (r .program) (parts .0)
+    the-program = program-makes (natAbs (r .scale)) (natAbs (r .inputs)) (r .program) (parts .0)
 
     the-results :
         Each (λ j o. o < natAbs (r .inputs) + length (r .program)) 0 (map natAbs (r .results))
@@ -252,10 +267,10 @@ fit-accepted r h = record { well-formed = formed; same = again; fields = slots }
     count-is : pos (length (r .program)) ≡ count r
     count-is = ap (λ (t : Bool). cond t (pos (length (r .program))) (negsuc 0)) (sym (l .0))
 
-    program-is : program-slots (natAbs (r .inputs)) (map raw-of (map instruction-of (r .program)))
-        ≡ program-slots (natAbs (r .inputs)) (r .program)
+    program-is : program-slots (natAbs (r .scale)) (natAbs (r .inputs)) (map raw-of (map instruction-of (r .program)))
+        ≡ program-slots (natAbs (r .scale)) (natAbs (r .inputs)) (r .program)
     program-is =
-        ap (program-slots (natAbs (r .inputs))) (the-program .1) ∙ own-program (natAbs (r .inputs)) (r .program)
+        ap (program-slots (natAbs (r .scale)) (natAbs (r .inputs))) (the-program .1) ∙ own-program (natAbs (r .scale)) (natAbs (r .inputs)) (r .program)
 
     slots : fields-of (formula-of r) ≡ raw-slots r
     slots =
@@ -283,6 +298,7 @@ made-raw (Add i j) = refl
 made-raw (Subtract i j) = refl
 made-raw (Multiply i j) = refl
 made-raw (Coefficient c r) = refl
+made-raw (Reciprocal i) = refl
 
 program-again : (is : List Instruction) → map instruction-of (map raw-of is) ≡ is
 program-again [] = refl
@@ -297,7 +313,7 @@ unfolding raw-slots fields-of
 well-formed-slots f w =
     ap₂ (λ (l n : ℕ).
     header-slots (pos (f .header .scale)) (pos (f .header .inputs)) (pos l) n
-    ++ (program-slots (f .header .inputs) (map raw-of (f .program))
+    ++ (program-slots (f .header .scale) (f .header .inputs) (map raw-of (f .program))
     ++ result-slots (f .header .inputs + l) (map pos (f .results))))
     (length-map (f .program) raw-of ∙ w .program-long) (length-map (f .results) pos ∙ w .results-long)
 

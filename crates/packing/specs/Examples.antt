@@ -21,7 +21,8 @@ example-at F m os = handed F m (parts (pos 4 ∷ pos 2 ∷ []) (pos 0 ∷ pos 2 
 abbrev file : List ℕ
 file = 0x02 ∷ 0x41 ∷ 0x00 ∷ 0x41 ∷ 0x80 ∷ 0x00 ∷ 0x02 ∷ 0x80 ∷ 0x20 ∷ 0x00 ∷ 0x03 ∷ []
 
--- one instruction on two inputs, its own value the output; a constant on none; and one with a margin
+-- one instruction on two inputs, its own value the output; a constant on none, and one with a margin; and a reciprocal
+-- of one input, at a scale
 abbrev one-step : ℤ → ℤ → ℤ → RawFormula
 one-step c a b = handed (pos 4) (pos 2) (parts (c ∷ []) (a ∷ []) (b ∷ []) (pos 2 ∷ []))
 
@@ -30,6 +31,9 @@ one-constant c = handed (pos 0) (pos 0) (parts (pos 0 ∷ []) (c ∷ []) (pos 9 
 
 abbrev one-coefficient : ℤ → ℤ → RawFormula
 one-coefficient c r = handed (pos 4) (pos 0) (parts (pos 5 ∷ []) (c ∷ []) (r ∷ []) (pos 0 ∷ []))
+
+abbrev one-reciprocal : ℤ → ℤ → RawFormula
+one-reciprocal F i = handed F (pos 1) (parts (pos 6 ∷ []) (i ∷ []) (pos 9 ∷ []) (pos 1 ∷ []))
 
 abbrev pub pack-examples : List PackExample
 pack-examples =
@@ -42,7 +46,7 @@ pack-examples =
     ∷ example 11 (example-at (pos 31) (pos 17) []) (refused 3)
     ∷ example 11 (example-at (negsuc 0) (pos 2) (pos 3 ∷ [])) (refused 3)
     ∷ example 11 (handed (pos 4) (pos 2) (parts (pos 7 ∷ []) [] (pos 0 ∷ []) (pos 9 ∷ []))) (refused 4)
-    ∷ example 11 (one-step (pos 6) (pos 0) (pos 1)) (refused 5)
+    ∷ example 11 (one-step (pos 7) (pos 0) (pos 1)) (refused 5)
     ∷ example 11 (one-step (negsuc 0) (pos 9) (pos 9)) (refused 5)
     ∷ example 11 (one-step (pos 1) (pos 2) (pos 0)) (refused 6)
     ∷ example 11 (one-step (pos 3) (pos 1) (pos 2)) (refused 6)
@@ -67,4 +71,9 @@ pack-examples =
     ∷ example 14 (one-coefficient (pos 2) (negsuc 0)) (refused 7)
     ∷ example 14 (one-coefficient (pos 4294967297) (pos 1)) (refused 7)
     ∷ example 13 (one-coefficient (pos 2) (pos 1)) (refused 10)
+    ∷ example 7 (one-reciprocal (pos 16) (pos 0)) (value (0x03 ∷ 0x00 ∷ 0x80 ∷ 0x21 ∷ 0xC0 ∷ 0x00 ∷ 0x02 ∷ []))
+    ∷ example 7 (one-reciprocal (pos 17) (pos 0)) (refused 16)
+    ∷ example 7 (one-reciprocal (pos 17) (pos 1)) (refused 16)
+    ∷ example 7 (one-reciprocal (pos 16) (pos 1)) (refused 6)
+    ∷ example 6 (one-reciprocal (pos 16) (pos 0)) (refused 10)
     ∷ []

@@ -1,4 +1,4 @@
--- Request a: each refusal of packing and of reading back, "given exactly when".
+-- Requests a, b and e: each refusal of packing and of reading back, "given exactly when".
 use mathlib.Core.Path.{_≡_}
 use mathlib.Core.List.{List, [], _∷_, _++_}
 use mathlib.Core.Logic.{_⊎_}
@@ -9,7 +9,8 @@ use Rattle.refusals.specs.Answer.{value}
 use Rattle.rules.specs.Numbers.{M}
 use Rattle.formulas.specs.Formula.{Formula}
 use Rattle.formulas.specs.GivenInRuns.{OneUnder}
-use Rattle.packed.specs.Items.{FieldKind, scale, inputs, instructions, outputs, code, constant, operand, centre, margin}
+use Rattle.packed.specs.Items.{FieldKind, scale, inputs, instructions, outputs, code, constant, operand, centre}
+use Rattle.packed.specs.Items.{margin, small-scale}
 use Rattle.packed.specs.Meaning.{formula}
 use Rattle.packed.specs.Given.{Wrong, Given}
 use Rattle.packing.specs.Raw.{RawFormula, Parts}
@@ -51,6 +52,7 @@ pub data GivenInPacking (room : ℕ) (r : RawFormula) : ℕ → Type 0 where
   seven : MeetsUnfit r constant ⊎ MeetsUnfit r centre → GivenInPacking room r 7
   seven-margin : (c : ℕ) → MeetsUnfit r (margin c) → GivenInPacking room r 7
   ten : TooLong room r → GivenInPacking room r 10
+  sixteen : (F : ℕ) → MeetsUnfit r (small-scale F) → GivenInPacking room r 16
 
 -- "10 for a short list": one has fewer places than there are instructions, or than there are outputs
 pub record TooShort (lent : Parts) (s : List ℕ) : Type 0 where

@@ -10,7 +10,7 @@ use Rattle.refusals.specs.Answer.{Answer, value, refuse, then}
 use Rattle.rules.specs.Numbers.{M}
 use Rattle.formulas.specs.Formula.{Formula}
 use Rattle.packed.specs.Items.{FieldKind, version, scale, inputs, instructions}
-use Rattle.packed.specs.Items.{outputs, code, constant, operand, centre, margin}
+use Rattle.packed.specs.Items.{outputs, code, constant, operand, centre, margin, small-scale}
 use Rattle.packed.specs.Items.{permitted, complaint}
 use Rattle.packing.specs.Raw.{RawFormula, formula-of}
 use Rattle.packing.specs.Slots.{Slot, raw-slots, packed-bytes}
@@ -30,6 +30,7 @@ sort constant = signed
 sort (operand v) = natural
 sort centre = signed
 sort (margin c) = natural
+sort (small-scale F) = natural
 
 -- what a field may be given: a number from 0 on that the reader permits; or one whose size is at most M, "7 also for a
 -- constant that 32 bits can't hold", and for −2^31; a margin that is permitted makes a reach of at most M
@@ -42,7 +43,8 @@ fits-as signed k z = leb (natAbs z) M
 abbrev pub fits : FieldKind → ℤ → Bool
 fits k = fits-as (sort k) k
 
--- "3 to 7 as in document 01, tested in the order in which the fields would be written"
+-- "3 to 7 as in document 01, tested in the order in which the fields would be written"; "16 at reading or packing,
+-- right after the code"
 abbrev pub slots-tested : List Slot → Answer (Unit {0})
 slots-tested [] = value tt
 slots-tested (s ∷ ss) = cond (fits (s .kind) (s .number)) (slots-tested ss) (refuse (complaint (s .kind)))

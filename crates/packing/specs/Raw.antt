@@ -7,7 +7,8 @@ use lib.Dec.{eqb}
 use lib.IntN.{ℤ, pos, negsuc, natAbs}
 use lib.ListN.{length}
 use Rattle.formulas.specs.declared.Instruction.{Instruction}
-use Rattle.formulas.specs.declared.Instruction.the-variants.{Constant, Negate, Add, Subtract, Multiply, Coefficient}
+use Rattle.formulas.specs.declared.Instruction.the-variants.{Constant, Negate, Add, Subtract}
+use Rattle.formulas.specs.declared.Instruction.the-variants.{Multiply, Coefficient, Reciprocal}
 use Rattle.formulas.specs.Formula.{Formula}
 
 -- an instruction, "just the fields its code has": a code with one field leaves the second alone
@@ -85,6 +86,7 @@ raw-of (Add i j) = raw (pos 2) (pos i) (pos j)
 raw-of (Subtract i j) = raw (pos 3) (pos i) (pos j)
 raw-of (Multiply i j) = raw (pos 4) (pos i) (pos j)
 raw-of (Coefficient c r) = raw (pos 5) c (pos r)
+raw-of (Reciprocal i) = raw (pos 6) (pos i) (pos 0)
 
 abbrev pub raw-formula : Formula → RawFormula
 raw-formula f =
@@ -105,7 +107,8 @@ made-of (pos (suc zero)) a b = Negate (natAbs a)
 made-of (pos (suc (suc zero))) a b = Add (natAbs a) (natAbs b)
 made-of (pos (suc (suc (suc zero)))) a b = Subtract (natAbs a) (natAbs b)
 made-of (pos (suc (suc (suc (suc zero))))) a b = Multiply (natAbs a) (natAbs b)
-made-of (pos (suc (suc (suc (suc (suc k)))))) a b = Coefficient a (natAbs b)
+made-of (pos (suc (suc (suc (suc (suc zero)))))) a b = Coefficient a (natAbs b)
+made-of (pos (suc (suc (suc (suc (suc (suc k))))))) a b = Reciprocal (natAbs a)
 made-of (negsuc k) a b = Constant a
 
 abbrev pub instruction-of : RawInstruction → Instruction
@@ -130,7 +133,11 @@ formula-of r =
 abbrev pub own-second : ℤ → ℤ → ℤ
 own-second (pos zero) b = pos 0
 own-second (pos (suc zero)) b = pos 0
-own-second (pos (suc (suc k))) b = b
+own-second (pos (suc (suc zero))) b = b
+own-second (pos (suc (suc (suc zero)))) b = b
+own-second (pos (suc (suc (suc (suc zero))))) b = b
+own-second (pos (suc (suc (suc (suc (suc zero)))))) b = b
+own-second (pos (suc (suc (suc (suc (suc (suc k))))))) b = pos 0
 own-second (negsuc k) b = b
 
 abbrev pub own : RawInstruction → RawInstruction

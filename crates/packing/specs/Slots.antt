@@ -8,7 +8,7 @@ use Rattle.bits.specs.Bits.{to-bits}
 use Rattle.writing.specs.Bytes.{bytes-of}
 use Rattle.formulas.specs.Formula.{Formula, places}
 use Rattle.packed.specs.Items.{FieldKind, version, scale, inputs, instructions, outputs}
-use Rattle.packed.specs.Items.{code, constant, operand, centre, margin, width}
+use Rattle.packed.specs.Items.{code, constant, operand, centre, margin, small-scale, width}
 use Rattle.packing.specs.Raw.{RawInstruction, RawFormula, count, raw-of}
 
 -- as a field holds it: "in two's complement" of 32 bits; a number from 0 on is itself
@@ -28,20 +28,22 @@ abbrev pub header-slots : ℤ → ℤ → ℤ → ℕ → List Slot
 header-slots F m l n =
     slot version (pos 1) ∷ slot scale F ∷ slot inputs m ∷ slot instructions l ∷ slot outputs (pos n) ∷ []
 
--- what follows a code in an instruction that makes value v: one case for each code, and nothing after a code that is
--- none
-abbrev pub argument-slots : ℕ → ℤ → ℤ → ℤ → List Slot
-argument-slots v (pos zero) a b = slot constant a ∷ []
-argument-slots v (pos (suc zero)) a b = slot (operand v) a ∷ []
-argument-slots v (pos (suc (suc zero))) a b = slot (operand v) a ∷ slot (operand v) b ∷ []
-argument-slots v (pos (suc (suc (suc zero)))) a b = slot (operand v) a ∷ slot (operand v) b ∷ []
-argument-slots v (pos (suc (suc (suc (suc zero))))) a b = slot (operand v) a ∷ slot (operand v) b ∷ []
-argument-slots v (pos (suc (suc (suc (suc (suc zero)))))) a b = slot centre a ∷ slot (margin (encoded a)) b ∷ []
-argument-slots v (pos (suc (suc (suc (suc (suc (suc k))))))) a b = []
-argument-slots v (negsuc k) a b = []
+-- what follows a code in an instruction that makes value v of a formula of scale F: one case for each code, and nothing
+-- after a code that is none
+abbrev pub argument-slots : ℕ → ℕ → ℤ → ℤ → ℤ → List Slot
+argument-slots F v (pos zero) a b = slot constant a ∷ []
+argument-slots F v (pos (suc zero)) a b = slot (operand v) a ∷ []
+argument-slots F v (pos (suc (suc zero))) a b = slot (operand v) a ∷ slot (operand v) b ∷ []
+argument-slots F v (pos (suc (suc (suc zero)))) a b = slot (operand v) a ∷ slot (operand v) b ∷ []
+argument-slots F v (pos (suc (suc (suc (suc zero))))) a b = slot (operand v) a ∷ slot (operand v) b ∷ []
+argument-slots F v (pos (suc (suc (suc (suc (suc zero)))))) a b = slot centre a ∷ slot (margin (encoded a)) b ∷ []
+argument-slots F v (pos (suc (suc (suc (suc (suc (suc zero))))))) a b =
+    slot (small-scale F) (pos 0) ∷ slot (operand v) a ∷ []
+argument-slots F v (pos (suc (suc (suc (suc (suc (suc (suc k)))))))) a b = []
+argument-slots F v (negsuc k) a b = []
 
-abbrev pub instruction-slots : ℕ → RawInstruction → List Slot
-instruction-slots v r = slot code (r .code) ∷ argument-slots v (r .code) (r .first) (r .second)
+abbrev pub instruction-slots : ℕ → ℕ → RawInstruction → List Slot
+instruction-slots F v r = slot code (r .code) ∷ argument-slots F v (r .code) (r .first) (r .second)
 
 abbrev pub output-slots : ℕ → ℕ → ℤ → List Slot
 output-slots v j o = slot (operand v) o ∷ []
@@ -52,8 +54,8 @@ several-slots s v [] = []
 several-slots s v (a ∷ l) = s v a ++ several-slots s (suc v) l
 
 -- "instruction k, from 0, makes value m+k"; an output names "a value below m+l"
-abbrev pub program-slots : ℕ → List RawInstruction → List Slot
-program-slots m rs = several-slots instruction-slots m rs
+abbrev pub program-slots : ℕ → ℕ → List RawInstruction → List Slot
+program-slots F m rs = several-slots (instruction-slots F) m rs
 
 abbrev pub result-slots : ℕ → List ℤ → List Slot
 result-slots v os = several-slots (output-slots v) 0 os
@@ -62,14 +64,14 @@ result-slots v os = several-slots (output-slots v) 0 os
 unfoldable pub raw-slots : RawFormula → List Slot
 raw-slots r =
     header-slots (r .scale) (r .inputs) (count r) (length (r .results))
-    ++ (program-slots (natAbs (r .inputs)) (r .program)
+    ++ (program-slots (natAbs (r .scale)) (natAbs (r .inputs)) (r .program)
     ++ result-slots (natAbs (r .inputs) + length (r .program)) (r .results))
 
 -- of a formula
 unfoldable pub fields-of : Formula → List Slot
 fields-of f =
     header-slots (pos (f .header .scale)) (pos (f .header .inputs)) (pos (f .header .instructions)) (f .header .outputs)
-    ++ (program-slots (f .header .inputs) (map raw-of (f .program))
+    ++ (program-slots (f .header .scale) (f .header .inputs) (map raw-of (f .program))
     ++ result-slots (places (f .header)) (map pos (f .results)))
 
 abbrev pub slots-bits : List Slot → List ℕ

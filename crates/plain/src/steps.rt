@@ -3,6 +3,7 @@ ghost use mathlib.Core.Path.{_≡_};
 ghost use Prim.Native.Nat.{_≤_};
 ghost use Rattle.rules.specs.Numbers.{top-scale};
 ghost use Rattle.rules.specs.Values.{Allowed, plain-reach};
+ghost use Rattle.rules.specs.Reciprocals.{top-reciprocal-scale};
 ghost use Rattle.rules.specs.Operation.{Operation};
 ghost use Rattle.rules.specs.Steps.{AtEveryScale, within-reach, plain-answer};
 ghost use Rattle.rules.specs.Plain.{plain-rule};
@@ -52,4 +53,15 @@ pub fn multiply(scale: u32, a: i64, b: i64) -> PlainStep
     ensures { λ r. ⌜ plain-answer r ≡ plain-rule scale (Operation.multiply a b) ⌝ }
 {
     keep(rounding::product(scale, a, b))
+}
+
+// The floor of T/a + 1/2, or refusal 17 at 0.
+pub fn reciprocal(scale: u32, a: i64) -> PlainStep
+    requires { ⌜ (scale ≤ top-reciprocal-scale) × Allowed a ⌝ }
+    ensures { λ r. ⌜ plain-answer r ≡ plain-rule scale (Operation.reciprocal a) ⌝ }
+{
+    if whole::magnitude(a) == 0 {
+        return PlainStep::Refused(Refusal::MayBeZero);
+    }
+    keep(reciprocals::inverse(scale, a).centre)
 }

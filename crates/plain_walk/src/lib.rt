@@ -38,6 +38,7 @@ fn step(scale: u32, i: Instruction, values: &[i64], made: usize) -> PlainStep
             value_at(values, b, made),
         ),
         Instruction::Coefficient(c, _) => steps::constant(c),
+        Instruction::Reciprocal(a) => steps::reciprocal(scale, value_at(values, a, made)),
     }
 }
 

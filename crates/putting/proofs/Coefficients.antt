@@ -25,8 +25,8 @@ use Rattle.putting.proofs.Puttings.{slots-put, slots-then}
 use Rattle.putting.proofs.Instructions.{encoded-allowed, as-kept, natural-kept}
 
 module _ (a b : ℤ) {w : Writer} {out : List ℕ} (p : InstructionPuttable (raw (pos 5) a b) w out) where
-  passed : AllFit (instruction-slots (p .makes) (raw (pos 5) a b))
-  passed = tested-all (instruction-slots (p .makes) (raw (pos 5) a b)) (p .puttable .passed)
+  passed : AllFit (instruction-slots (p .scale) (p .makes) (raw (pos 5) a b))
+  passed = tested-all (instruction-slots (p .scale) (p .makes) (raw (pos 5) a b)) (p .puttable .passed)
 
   allowed : Allowed a
   allowed = leb-true (natAbs a) M (passed .1 .0)
@@ -89,7 +89,7 @@ module _ (a b : ℤ) {w : Writer} {out : List ℕ} (p : InstructionPuttable (raw
           }
 
       pub coefficient-put : {new : List ℕ} {r : Writer} → Puts t 31 y far new r → PutsInstruction (raw (pos 5) a b) w out new r
-      coefficient-put {new} {r} q = record { puts = λ v. slots-then put-code (slots-then put-centre put-margin) }
+      coefficient-put {new} {r} q = record { puts = λ F v. slots-then put-code (slots-then put-centre put-margin) }
         where
           put-margin : PutsSlots (slot (margin (encoded a)) b ∷ []) t far new r
           put-margin =

@@ -23,7 +23,7 @@ use Rattle.packing.specs.Raw.{raw}
 use Rattle.packing.specs.Slots.{Slot, slot, encoded, instruction-slots, slots-bits, slots-width}
 use Rattle.packing.specs.Packing.{fits}
 use Rattle.packing.proofs.Packs.{AllFit, tested-all, is-natural, below}
-use Rattle.fitting.proofs.Tests.{fits-code, Code, none-named, one-named, two-named, with-margin, code-of, two-arguments}
+use Rattle.fitting.proofs.Tests.{fits-code, Code, none-named, one-named, two-named, with-margin, divided, code-of, two-arguments}
 use Rattle.putting.specs.Putting.{PutsSlots, InstructionPuttable, PutsInstruction}
 use Rattle.putting.proofs.Puttings.{slots-put, slots-then}
 
@@ -31,6 +31,11 @@ use Rattle.putting.proofs.Puttings.{slots-put, slots-then}
 
 one-field : (w c x : ℕ) → x < 2 ^ w → to-bits 3 c ++ (to-bits w x ++ []) ≡ to-bits (3 + w) (c * 2 ^ w + x)
 one-field w c x l = ap (λ (bs : List ℕ). to-bits 3 c ++ bs) (append-nil (to-bits w x)) ∙ to-bits-join 3 w c x l
+
+-- a field of no bits between
+field-behind-none : (w c n x : ℕ) → x < 2 ^ w → to-bits 3 c ++ (to-bits 0 n ++ (to-bits w x ++ [])) ≡ to-bits (3 + w) (c * 2 ^ w + x)
+unfolding to-bits
+field-behind-none w c n x l = one-field w c x l
 
 two-fields : (c x y : ℕ) → x < 2 ^ 10 → y < 2 ^ 10
     → to-bits 3 c ++ (to-bits 10 x ++ (to-bits 10 y ++ [])) ≡ to-bits 23 ((c * 1024 + x) * 1024 + y)
@@ -61,32 +66,36 @@ record Two (c a b : ℤ) (v : ℕ) (w : Writer) (out : List ℕ) : Type 0 where
   natural : pos (natAbs b) ≡ b
   small : natAbs b < v
   room : 8 * w .at + w .count + 23 ≤ 8 * length out
-  alike : (u : ℕ) → instruction-slots u (raw c a b) ≡ slot code c ∷ slot (operand u) a ∷ slot (operand u) b ∷ []
+  alike : (F u : ℕ) → instruction-slots F u (raw c a b) ≡ slot code c ∷ slot (operand u) a ∷ slot (operand u) b ∷ []
 
-two-of : (a b : ℤ) (v : ℕ) (w : Writer) (out : List ℕ) {c : ℤ} → Code c → (encoded c ≡ 0 → ⊥) → (encoded c ≡ 1 → ⊥)
-    → (encoded c ≡ 5 → ⊥) → AllFit (instruction-slots v (raw c a b))
-    → 8 * w .at + w .count + slots-width (instruction-slots v (raw c a b)) ≤ 8 * length out → Two c a b v w out
-two-of a b v w out none-named e d f h l = absurd (e refl)
-two-of a b v w out one-named e d f h l = absurd (d refl)
-two-of a b v w out with-margin e d f h l = absurd (f refl)
-two-of a b v w out (two-named {n} l k) e d f h r =
-    let both = subst AllFit (two-arguments v n a b l k) (h .1) in
-    let alike : (u : ℕ) → instruction-slots u (raw (pos n) a b) ≡ slot code (pos n) ∷ slot (operand u) a ∷ slot (operand u) b ∷ []
-    = λ u. ap (λ (ss : List Slot). slot code (pos n) ∷ ss) (two-arguments u n a b l k) in
+two-of : (a b : ℤ) (F v : ℕ) (w : Writer) (out : List ℕ) {c : ℤ} → Code c → (encoded c ≡ 0 → ⊥) → (encoded c ≡ 1 → ⊥)
+    → encoded c < 5 → AllFit (instruction-slots F v (raw c a b))
+    → 8 * w .at + w .count + slots-width (instruction-slots F v (raw c a b)) ≤ 8 * length out → Two c a b v w out
+two-of a b F v w out none-named e d f h l = absurd (e refl)
+two-of a b F v w out one-named e d f h l = absurd (d refl)
+two-of a b F v w out with-margin e d f h l = absurd (omega arith)
+two-of a b F v w out divided e d f h l = absurd (omega arith)
+two-of a b F v w out (two-named {n} l k) e d f h r =
+    let both = subst AllFit (two-arguments F v n a b l k) (h .1) in
+    let alike : (G u : ℕ) → instruction-slots G u (raw (pos n) a b) ≡ slot code (pos n) ∷ slot (operand u) a ∷ slot (operand u) b ∷ []
+    = λ G u. ap (λ (ss : List Slot). slot code (pos n) ∷ ss) (two-arguments G u n a b l k) in
     record {
       low-code = k;
       natural = is-natural (operand v) b (both .1 .0) .is;
       small = below v b (both .1 .0);
-      room = subst (λ (ss : List Slot). 8 * w .at + w .count + slots-width ss ≤ 8 * length out) (alike v) r;
+      room = subst (λ (ss : List Slot). 8 * w .at + w .count + slots-width ss ≤ 8 * length out) (alike F v) r;
       alike = alike;
     }
 
 module _ (c a b : ℤ) {w : Writer} {out : List ℕ} (p : InstructionPuttable (raw c a b) w out) (fc : SFits w64 c) where
+  abbrev F : ℕ
+  F = p .scale
+
   abbrev v : ℕ
   v = p .makes
 
-  passed : AllFit (instruction-slots v (raw c a b))
-  passed = tested-all (instruction-slots v (raw c a b)) (p .puttable .passed)
+  passed : AllFit (instruction-slots F v (raw c a b))
+  passed = tested-all (instruction-slots F v (raw c a b)) (p .puttable .passed)
 
   named : Code c
   named = code-of c (sym (fits-code c) ∙ passed .0)
@@ -99,11 +108,12 @@ module _ (c a b : ℤ) {w : Writer} {out : List ℕ} (p : InstructionPuttable (r
       allowed : Allowed a
       allowed = by-code named (sym (as-kept fc number) ∙ zeroth) passed
         where
-          by-code : {c : ℤ} → Code c → encoded c ≡ 0 → AllFit (instruction-slots v (raw c a b)) → Allowed a
+          by-code : {c : ℤ} → Code c → encoded c ≡ 0 → AllFit (instruction-slots F v (raw c a b)) → Allowed a
           by-code none-named e h = leb-true (natAbs a) M (h .1 .0)
           by-code one-named e h = absurd (omega arith)
           by-code (two-named l k) e h = absurd (omega arith)
           by-code with-margin e h = absurd (omega arith)
+          by-code divided e h = absurd (omega arith)
 
       pub constant-allowed : Allowed (back a)
       constant-allowed = subst Allowed (sym (toZ-ofZ w64 a fa)) allowed
@@ -112,12 +122,13 @@ module _ (c a b : ℤ) {w : Writer} {out : List ℕ} (p : InstructionPuttable (r
       zeroth-room = by-code named (sym (as-kept fc number) ∙ zeroth) (p .puttable .room)
         where
           by-code : {c : ℤ} → Code c → encoded c ≡ 0
-              → 8 * w .at + w .count + slots-width (instruction-slots v (raw c a b)) ≤ 8 * length out
+              → 8 * w .at + w .count + slots-width (instruction-slots F v (raw c a b)) ≤ 8 * length out
               → 8 * w .at + w .count + 35 ≤ 8 * length out
           by-code none-named e h = h
           by-code one-named e h = absurd (omega arith)
           by-code (two-named l k) e h = absurd (omega arith)
           by-code with-margin e h = absurd (omega arith)
+          by-code divided e h = absurd (omega arith)
 
       pub code-room : MayPut w 3 0 out
       code-room =
@@ -145,10 +156,11 @@ module _ (c a b : ℤ) {w : Writer} {out : List ℕ} (p : InstructionPuttable (r
                 refl constant-room q
 
             by-code : {c : ℤ} → Code c → encoded c ≡ 0 → PutsInstruction (raw c a b) w out new r
-            by-code none-named e = record { puts = λ u. slots-then put-code put-constant }
+            by-code none-named e = record { puts = λ F u. slots-then put-code put-constant }
             by-code one-named e = absurd (omega arith)
             by-code (two-named l k) e = absurd (omega arith)
             by-code with-margin e = absurd (omega arith)
+            by-code divided e = absurd (omega arith)
 
     -- a constant with a margin, as it is handed on
     module _ (fb : SFits w64 b) (fifth : n ≡ 5) where
@@ -160,6 +172,7 @@ module _ (c a b : ℤ) {w : Writer} {out : List ℕ} (p : InstructionPuttable (r
           by-code one-named e = absurd (omega arith)
           by-code (two-named l k) e = absurd (omega arith)
           by-code with-margin e = refl
+          by-code divided e = absurd (omega arith)
 
       same : raw c a b ≡ raw (pos 5) (back a) (back b)
       same = λ i. raw (five i) (sym (toZ-ofZ w64 a fa) i) (sym (toZ-ofZ w64 b fb) i)
@@ -171,9 +184,59 @@ module _ (c a b : ℤ) {w : Writer} {out : List ℕ} (p : InstructionPuttable (r
           → PutsInstruction (raw c a b) w out new r
       coefficient-done {new} {r} q = subst (λ x. PutsInstruction x w out new r) (sym same) q
 
-    module _ (some : n ≡ 0 → ⊥) (bare : n ≡ 5 → ⊥) where
-      not-five : encoded c ≡ 5 → ⊥
-      not-five e = bare (as-kept fc number ∙ e)
+    -- a reciprocal: the code's only other number from 5 on
+    module _ (beyond : 5 ≤ n) (bare : n ≡ 5 → ⊥) where
+      six : c ≡ pos 6
+      six = by-code named (omega (arith, as-kept fc number)) (λ e. bare (as-kept fc number ∙ e))
+        where
+          by-code : {c : ℤ} → Code c → 5 ≤ encoded c → (encoded c ≡ 5 → ⊥) → c ≡ pos 6
+          by-code none-named l e = absurd (omega arith)
+          by-code one-named l e = absurd (omega arith)
+          by-code (two-named i k) l e = absurd (omega arith)
+          by-code with-margin l e = absurd (e refl)
+          by-code divided l e = refl
+
+      divisor-passed : AllFit (instruction-slots F v (raw (pos 6) a b))
+      divisor-passed = subst (λ (z : ℤ). AllFit (instruction-slots F v (raw z a b))) six passed
+
+      divisor-is : pos (natAbs a) ≡ a
+      divisor-is = is-natural (operand v) a (divisor-passed .1 .1 .0) .is
+
+      divisor-low : encoded a < 2 ^ 10
+      divisor-low = low-operand (p .low) (below v a (divisor-passed .1 .1 .0)) divisor-is
+
+      pub divisor-natural : back a ≡ pos (natAbs (back a))
+      divisor-natural = natural-kept fa divisor-is
+
+      module _ {x : ℕ} (first : x ≡ encoded (back a)) where
+        pub divisor-near : 6144 + x < 2 ^ 64
+        divisor-near = omega (arith, as-kept fa first, divisor-low)
+
+        pub divisor-room : MayPut w 13 (6144 + x) out
+        divisor-room =
+            record {
+              narrow = omega arith;
+              fits = omega (arith, as-kept fa first, divisor-low);
+              few = p .puttable .few;
+              room =
+                  subst (λ (z : ℤ). 8 * w .at + w .count + slots-width (instruction-slots F v (raw z a b)) ≤ 8 * length out) six
+                  (p .puttable .room);
+            }
+
+        pub divisor-put : {new : List ℕ} {r : Writer} → Puts w 13 (6144 + x) out new r → PutsInstruction (raw c a b) w out new r
+        divisor-put {new} {r} q =
+            subst (λ (z : ℤ). PutsInstruction (raw z a b) w out new r) (sym six)
+            (record {
+              puts =
+                  λ F u.
+                  slots-put (instruction-slots F u (raw (pos 6) a b)) 13
+                  (field-behind-none 10 6 0 (encoded a) divisor-low ∙ ap (λ (y : ℕ). to-bits 13 (6144 + y)) (sym (as-kept fa first))) refl
+                  divisor-room q;
+            })
+
+    module _ (some : n ≡ 0 → ⊥) (bare : n < 5) where
+      below-five : encoded c < 5
+      below-five = omega (arith, as-kept fc number)
 
       not-zero : encoded c ≡ 0 → ⊥
       not-zero e = some (as-kept fc number ∙ e)
@@ -184,17 +247,18 @@ module _ (c a b : ℤ) {w : Writer} {out : List ℕ} (p : InstructionPuttable (r
         small : natAbs a < v
 
       first-operand : First
-      first-operand = by-code named not-zero not-five passed
+      first-operand = by-code named not-zero below-five passed
         where
           of-fits : fits (operand v) a ≡ true → First
           of-fits h = record { natural = is-natural (operand v) a h .is; small = below v a h }
 
-          by-code : {c : ℤ} → Code c → (encoded c ≡ 0 → ⊥) → (encoded c ≡ 5 → ⊥)
-              → AllFit (instruction-slots v (raw c a b)) → First
+          by-code : {c : ℤ} → Code c → (encoded c ≡ 0 → ⊥) → encoded c < 5
+              → AllFit (instruction-slots F v (raw c a b)) → First
           by-code none-named e f h = absurd (e refl)
-          by-code with-margin e f h = absurd (f refl)
+          by-code with-margin e f h = absurd (omega arith)
+          by-code divided e f h = absurd (omega arith)
           by-code one-named e f h = of-fits (h .1 .0)
-          by-code (two-named {n} l k) e f h = of-fits (subst AllFit (two-arguments v n a b l k) (h .1) .0)
+          by-code (two-named {n} l k) e f h = of-fits (subst AllFit (two-arguments F v n a b l k) (h .1) .0)
 
       pub first-natural : back a ≡ pos (natAbs (back a))
       first-natural = natural-kept fa (first-operand .natural)
@@ -220,12 +284,13 @@ module _ (c a b : ℤ) {w : Writer} {out : List ℕ} (p : InstructionPuttable (r
               }
             where
               by-code : {c : ℤ} → Code c → encoded c ≡ 1
-                  → 8 * w .at + w .count + slots-width (instruction-slots v (raw c a b)) ≤ 8 * length out
+                  → 8 * w .at + w .count + slots-width (instruction-slots F v (raw c a b)) ≤ 8 * length out
                   → 8 * w .at + w .count + 13 ≤ 8 * length out
               by-code none-named e h = absurd (omega arith)
               by-code one-named e h = h
               by-code (two-named l k) e h = absurd (omega arith)
               by-code with-margin e h = absurd (omega arith)
+              by-code divided e h = absurd (omega arith)
 
           pub one-put : {new : List ℕ} {r : Writer} → Puts w 13 (1024 + x) out new r
               → PutsInstruction (raw c a b) w out new r
@@ -237,20 +302,21 @@ module _ (c a b : ℤ) {w : Writer} {out : List ℕ} (p : InstructionPuttable (r
               by-code one-named e =
                   record {
                     puts =
-                        λ u.
-                        slots-put (instruction-slots u (raw (pos 1) a b)) 13
+                        λ F u.
+                        slots-put (instruction-slots F u (raw (pos 1) a b)) 13
                         (one-field 10 1 (encoded a) first-low ∙ ap (λ (y : ℕ). to-bits 13 (1024 + y)) (sym first-is)) refl
                         one-room q;
                   }
               by-code (two-named l k) e = absurd (omega arith)
               by-code with-margin e = absurd (omega arith)
+              by-code divided e = absurd (omega arith)
 
         module _ (more : n ≡ 1 → ⊥) where
           not-one : encoded c ≡ 1 → ⊥
           not-one e = more (as-kept fc number ∙ e)
 
           two : Two c a b v w out
-          two = two-of a b v w out named not-zero not-one not-five passed (p .puttable .room)
+          two = two-of a b F v w out named not-zero not-one below-five passed (p .puttable .room)
 
           number-is : n ≡ encoded c
           number-is = as-kept fc number
@@ -292,11 +358,11 @@ module _ (c a b : ℤ) {w : Writer} {out : List ℕ} (p : InstructionPuttable (r
               two-put {new} {r} q =
                   record {
                     puts =
-                        λ u.
-                        slots-put (instruction-slots u (raw c a b)) 23
-                        (ap slots-bits (two .alike u) ∙ two-fields (encoded c) (encoded a) (encoded b) first-low second-low
+                        λ F u.
+                        slots-put (instruction-slots F u (raw c a b)) 23
+                        (ap slots-bits (two .alike F u) ∙ two-fields (encoded c) (encoded a) (encoded b) first-low second-low
                         ∙ ap (to-bits 23) (sym numbers))
-                        (ap slots-width (two .alike u)) two-room q;
+                        (ap slots-width (two .alike F u)) two-room q;
                   }
                 where
                   numbers : (n * 1024 + x) * 1024 + y ≡ (encoded c * 1024 + encoded a) * 1024 + encoded b

@@ -42,15 +42,16 @@ puts-same {w = w} {r = r} {new = new} e p =
       few = p .few;
     }
 
-instruction-same : (u v : ℕ) (c a b : ℤ) → SameBits (instruction-slots u (raw c a b)) (instruction-slots v (raw c a b))
-instruction-same u v (pos zero) a b = record { bits-same = refl; width-same = refl }
-instruction-same u v (pos (suc zero)) a b = record { bits-same = refl; width-same = refl }
-instruction-same u v (pos (suc (suc zero))) a b = record { bits-same = refl; width-same = refl }
-instruction-same u v (pos (suc (suc (suc zero)))) a b = record { bits-same = refl; width-same = refl }
-instruction-same u v (pos (suc (suc (suc (suc zero))))) a b = record { bits-same = refl; width-same = refl }
-instruction-same u v (pos (suc (suc (suc (suc (suc zero)))))) a b = record { bits-same = refl; width-same = refl }
-instruction-same u v (pos (suc (suc (suc (suc (suc (suc k))))))) a b = record { bits-same = refl; width-same = refl }
-instruction-same u v (negsuc k) a b = record { bits-same = refl; width-same = refl }
+instruction-same : (F G u v : ℕ) (c a b : ℤ) → SameBits (instruction-slots F u (raw c a b)) (instruction-slots G v (raw c a b))
+instruction-same F G u v (pos zero) a b = record { bits-same = refl; width-same = refl }
+instruction-same F G u v (pos (suc zero)) a b = record { bits-same = refl; width-same = refl }
+instruction-same F G u v (pos (suc (suc zero))) a b = record { bits-same = refl; width-same = refl }
+instruction-same F G u v (pos (suc (suc (suc zero)))) a b = record { bits-same = refl; width-same = refl }
+instruction-same F G u v (pos (suc (suc (suc (suc zero))))) a b = record { bits-same = refl; width-same = refl }
+instruction-same F G u v (pos (suc (suc (suc (suc (suc zero)))))) a b = record { bits-same = refl; width-same = refl }
+instruction-same F G u v (pos (suc (suc (suc (suc (suc (suc zero))))))) a b = record { bits-same = refl; width-same = refl }
+instruction-same F G u v (pos (suc (suc (suc (suc (suc (suc (suc k)))))))) a b = record { bits-same = refl; width-same = refl }
+instruction-same F G u v (negsuc k) a b = record { bits-same = refl; width-same = refl }
 
 append-same : {ss ts us vs : List Slot} → SameBits ss ts → SameBits us vs → SameBits (ss ++ us) (ts ++ vs)
 append-same {ss} {ts} {us} {vs} p q =
@@ -61,10 +62,10 @@ append-same {ss} {ts} {us} {vs} p q =
       width-same = omega (arith, width-append ss us, width-append ts vs, p .width-same, q .width-same);
     }
 
-program-same : (u v : ℕ) (rs : List RawInstruction) → SameBits (program-slots u rs) (program-slots v rs)
-program-same u v [] = record { bits-same = refl; width-same = refl }
-program-same u v (r ∷ rs) =
-    append-same (instruction-same u v (r .code) (r .first) (r .second)) (program-same (suc u) (suc v) rs)
+program-same : (F G u v : ℕ) (rs : List RawInstruction) → SameBits (program-slots F u rs) (program-slots G v rs)
+program-same F G u v [] = record { bits-same = refl; width-same = refl }
+program-same F G u v (r ∷ rs) =
+    append-same (instruction-same F G u v (r .code) (r .first) (r .second)) (program-same F G (suc u) (suc v) rs)
 
 results-same : (u v j : ℕ) (os : List ℤ)
     → SameBits (several-slots (output-slots u) j os) (several-slots (output-slots v) j os)
@@ -78,7 +79,7 @@ results-same u v j (o ∷ os) =
 pub record ProgramPutting (cs fs ss : List ℤ) (w₀ : Writer) (out₀ : List ℕ) (k : ℕ) (w : Writer) (out : List ℕ) : Type 0 where
   pub inside : k ≤ length cs
   pub asked : ProgramPuttable cs fs ss w₀ out₀
-  pub putting : Putting instruction-slots (asked .makes) (instructions-of cs fs ss) w₀ out₀ k w out
+  pub putting : Putting (instruction-slots (asked .scale)) (asked .makes) (instructions-of cs fs ss) w₀ out₀ k w out
 
 module _ {cs fs ss : List ℤ} {w₀ : Writer} {out₀ : List ℕ} where
   pub program-starts : ProgramPuttable cs fs ss w₀ out₀ → ProgramPutting cs fs ss w₀ out₀ 0 w₀ out₀
@@ -86,7 +87,7 @@ module _ {cs fs ss : List ℤ} {w₀ : Writer} {out₀ : List ℕ} where
       record {
         inside = omega arith;
         asked = p;
-        putting = putting-none instruction-slots (p .makes) (instructions-of cs fs ss) (p .puttable);
+        putting = putting-none (instruction-slots (p .scale)) (p .makes) (instructions-of cs fs ss) (p .puttable);
       }
 
   module _ {k : ℕ} {w : Writer} {out : List ℕ} (g : ProgramPutting cs fs ss w₀ out₀ k w out) where
@@ -97,9 +98,9 @@ module _ {cs fs ss : List ℤ} {w₀ : Writer} {out₀ : List ℕ} where
     program-done l =
         record {
           puts =
-              λ m.
-              puts-same (program-same (g .asked .makes) m (instructions-of cs fs ss))
-              (putting-ends instruction-slots (g .asked .makes) (instructions-of cs fs ss) (g .putting)
+              λ F m.
+              puts-same (program-same (g .asked .scale) F (g .asked .makes) m (instructions-of cs fs ss))
+              (putting-ends (instruction-slots (g .asked .scale)) (g .asked .makes) (instructions-of cs fs ss) (g .putting)
               (omega (arith, length-instructions-of cs fs ss (g .asked .as-firsts) (g .asked .as-seconds))));
         }
 
@@ -125,10 +126,11 @@ module _ {cs fs ss : List ℤ} {w₀ : Writer} {out₀ : List ℕ} where
       program-asks =
           subst (λ (i : RawInstruction). InstructionPuttable i w out) is-kept
           (record {
+            scale = g .asked .scale;
             makes = g .asked .makes + k;
             low = omega (arith, g .asked .low);
             puttable =
-                putting-asks instruction-slots (g .asked .makes) (instructions-of cs fs ss) (g .putting) no-instruction within;
+                putting-asks (instruction-slots (g .asked .scale)) (g .asked .makes) (instructions-of cs fs ss) (g .putting) no-instruction within;
           })
 
       pub program-goes-on : {r : Writer} {new : List ℕ}
@@ -139,8 +141,8 @@ module _ {cs fs ss : List ℤ} {w₀ : Writer} {out₀ : List ℕ} where
             inside = omega arith;
             asked = g .asked;
             putting =
-                putting-more instruction-slots (g .asked .makes) (instructions-of cs fs ss) (g .putting) no-instruction within
-                (subst (λ (i : RawInstruction). PutsInstruction i w out new r) (sym is-kept) p .puts (g .asked .makes + k)) e;
+                putting-more (instruction-slots (g .asked .scale)) (g .asked .makes) (instructions-of cs fs ss) (g .putting) no-instruction within
+                (subst (λ (i : RawInstruction). PutsInstruction i w out new r) (sym is-kept) p .puts (g .asked .scale) (g .asked .makes + k)) e;
           }
 
 -- ---- outputs

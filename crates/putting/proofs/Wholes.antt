@@ -34,7 +34,7 @@ use Rattle.putting.proofs.Puttings.{slots-then}
 
 module _ (F m : ℤ) (cs fs ss os : List ℤ) {out : List ℕ} (p : Writable (handed F m (parts cs fs ss os)) out) where
   abbrev program : List Slot
-  program = program-slots (natAbs m) (instructions-of cs fs ss)
+  program = program-slots (natAbs F) (natAbs m) (instructions-of cs fs ss)
 
   abbrev results : List Slot
   results = result-slots (natAbs m + length (instructions-of cs fs ss)) os
@@ -107,6 +107,7 @@ module _ (F m : ℤ) (cs fs ss os : List ℤ) {out : List ℕ} (p : Writable (ha
       pub program-may : ProgramPuttable cs fs ss w one
       program-may =
           record {
+            scale = natAbs F;
             makes = natAbs m;
             as-firsts = passed .as-firsts;
             as-seconds = passed .as-seconds;
@@ -121,7 +122,7 @@ module _ (F m : ℤ) (cs fs ss os : List ℤ) {out : List ℕ} (p : Writable (ha
 
       module _ {two : List ℕ} {u : Writer} (q : PutsProgram cs fs ss w one two u) (long-two : length two ≡ length one) where
         put-program : PutsSlots program w one two u
-        put-program = q .puts (natAbs m)
+        put-program = q .puts (natAbs F) (natAbs m)
 
         pub results-may : ResultsPuttable os u two
         results-may =

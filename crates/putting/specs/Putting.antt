@@ -42,25 +42,27 @@ pub record HeaderPuttable (F m : ℤ) (l n : ℕ) (out : List ℕ) : Type 0 wher
 pub record PutsHeader (F m : ℤ) (l n : ℕ) (old new : List ℕ) (r : Writer) : Type 0 where
   pub puts : PutsSlots (header-slots F m (pos l) n) fresh old new r
 
--- an instruction, whatever value it makes
+-- an instruction, whatever value it makes, and at whatever scale that is permitted
 pub record InstructionPuttable (i : RawInstruction) (w : Writer) (out : List ℕ) : Type 0 where
+  pub scale : ℕ
   pub makes : ℕ
   pub low : makes ≤ 1024
-  pub puttable : Puttable (instruction-slots makes i) w out
+  pub puttable : Puttable (instruction-slots scale makes i) w out
 
 pub record PutsInstruction (i : RawInstruction) (w : Writer) (old new : List ℕ) (r : Writer) : Type 0 where
-  pub puts : (v : ℕ) → PutsSlots (instruction-slots v i) w old new r
+  pub puts : (F v : ℕ) → PutsSlots (instruction-slots F v i) w old new r
 
 -- all instructions, whatever value the first of them makes
 pub record ProgramPuttable (codes firsts seconds : List ℤ) (w : Writer) (out : List ℕ) : Type 0 where
+  pub scale : ℕ
   pub makes : ℕ
   pub as-firsts : length codes ≡ length firsts
   pub as-seconds : length codes ≡ length seconds
   pub low : makes + length codes ≤ 1024
-  pub puttable : Puttable (program-slots makes (instructions-of codes firsts seconds)) w out
+  pub puttable : Puttable (program-slots scale makes (instructions-of codes firsts seconds)) w out
 
 pub record PutsProgram (codes firsts seconds : List ℤ) (w : Writer) (old new : List ℕ) (r : Writer) : Type 0 where
-  pub puts : (m : ℕ) → PutsSlots (program-slots m (instructions-of codes firsts seconds)) w old new r
+  pub puts : (F m : ℕ) → PutsSlots (program-slots F m (instructions-of codes firsts seconds)) w old new r
 
 -- all outputs, however many values there are
 pub record ResultsPuttable (outputs : List ℤ) (w : Writer) (out : List ℕ) : Type 0 where

@@ -1,10 +1,11 @@
 -- Request c: "give a place: the reading's index or, for 11, the instruction's. Every other refusal has place 0."
+-- Request e: "17 at the step .. with its place".
 use Prim.Native.Nat.{ℕ}
 use Rattle.refusals.specs.declared.Refusal.{Refusal}
 use Rattle.refusals.specs.declared.Refusal.the-variants as refusal
 use Rattle.refusals.specs.declared.Verdict.{Verdict}
 use Rattle.refusals.specs.declared.Verdict.the-variants.{Passed, Refused}
-use Rattle.refusals.specs.Refusals.{refusal-number}
+use Rattle.refusals.specs.Refusals.{refusal-number, AtStep}
 use Rattle.refusals.specs.Answer.{Outcome, value, refused, Answer}
 
 -- what a job is told: the number of a refusal and its place
@@ -30,9 +31,9 @@ elsewhere a = at-place 0 a
 abbrev pub refuse-at : {A : Type 0} → Refusal → ℕ → Placed A
 refuse-at r k = refused-at (refusal-number r) k
 
--- the refusals whose place is an index: "the reading's index or, for 11, the instruction's"
+-- the refusals whose place is an index: "the reading's index", or the instruction's for those that a step meets
 pub data HasPlace : ℕ → Type 0 where
-  instruction : HasPlace (refusal-number refusal.OutOfReach)
+  instruction : {n : ℕ} → AtStep n → HasPlace n
   negative : HasPlace (refusal-number refusal.NegativeMargin)
   too-large : HasPlace (refusal-number refusal.ReadingTooLarge)
 

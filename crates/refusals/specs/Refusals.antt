@@ -1,14 +1,14 @@
--- Document 01, "Numbered replies and their order", with requests b and c: the paper's number for each refusal.
-use mathlib.Core.Path.{_≡_}
-use Prim.Native.Nat.{ℕ}
+-- Document 01, "Numbered replies and their order", with requests b, c and e: the paper's number for each refusal.
+use Prim.Native.Nat.{ℕ, _≤_}
 use Rattle.refusals.specs.declared.Refusal.{Refusal}
 use Rattle.refusals.specs.declared.Refusal.the-variants as refusal
 
 -- "the bytes end inside a field" · "the version isn't 1" · "the scale is over 30" · "m, l or n is outside its limits" ·
--- "the code is .. 6 or 7" · "an operand or output names no permitted value" · "a constant is −2^31", "a reach over M" ·
+-- "the code is .. 7" · "an operand or output names no permitted value" · "a constant is −2^31", "a reach over M" ·
 -- "a padding bit is set or a byte follows" · "9 is no longer given" · "a work list has under m+l places or an output
 -- list under n" · "a step's result is out of reach" · "input of another form" · "wrong number of readings" · "a stray
--- or margin is negative" · "reach or size"
+-- or margin is negative" · "reach or size" · "the scale is over 16" · "a is 0 .., |a| is at most r .. or |A| is at most
+-- R+r"
 abbrev pub refusal-number : Refusal → ℕ
 refusal-number refusal.Ended = 1
 refusal-number refusal.Version = 2
@@ -24,7 +24,15 @@ refusal-number refusal.AnotherForm = 12
 refusal-number refusal.ReadingCount = 13
 refusal-number refusal.NegativeMargin = 14
 refusal-number refusal.ReadingTooLarge = 15
+refusal-number refusal.ReciprocalScale = 16
+refusal-number refusal.MayBeZero = 17
+
+-- the refusals of the bytes: "1 to 8", and "16 at reading"
+pub data OfBytes : ℕ → Type 0 where
+  in-file-order : {n : ℕ} → 1 ≤ n → n ≤ 8 → OfBytes n
+  reciprocal-scale : OfBytes (refusal-number refusal.ReciprocalScale)
 
 -- the refusals that a step of a run meets; every other one writes nothing
-abbrev pub AtStep : ℕ → Type 0
-AtStep n = n ≡ refusal-number refusal.OutOfReach
+pub data AtStep : ℕ → Type 0 where
+  out-of-reach : AtStep (refusal-number refusal.OutOfReach)
+  divided-by-zero : AtStep (refusal-number refusal.MayBeZero)

@@ -19,6 +19,8 @@ pub enum Refusal {
     ReadingCount,
     NegativeMargin,
     ReadingTooLarge,
+    ReciprocalScale,
+    MayBeZero,
 }
 
 // Whether what a caller brought passed its test, or why not and at which place.
@@ -52,5 +54,7 @@ pub fn number_of(r: Refusal) -> u32
         Refusal::ReadingCount => 13,
         Refusal::NegativeMargin => 14,
         Refusal::ReadingTooLarge => 15,
+        Refusal::ReciprocalScale => 16,
+        Refusal::MayBeZero => 17,
     }
 }

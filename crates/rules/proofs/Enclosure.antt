@@ -1,6 +1,7 @@
 -- Each ball rule encloses: if the operands contain the fractions, the result contains the exact result, and so does the accepted ball.
 -- Assumes nothing.
 use mathlib.Core.Path.{_≡_, refl, ap, subst}
+use mathlib.Core.Bool.{false}
 use mathlib.Core.List.{List, [], _∷_}
 use Prim.Native.Nat.{ℕ, _+_, _*_, _≤_, zero-le}
 use native.Mathlib.Nat.{le-refl, le-trans, le-of-eq, mul-le-mul-right, le-of-mul-le-mul-right}
@@ -10,12 +11,15 @@ use lib.Pow.{pow-pos}
 use Rattle.rules.specs.declared.Ball.{Ball}
 use Rattle.rules.specs.Numbers.{Q, Round, Up}
 use Rattle.rules.specs.Values.{Fraction, Contains, ball-reach}
-use Rattle.rules.specs.Operation.{Operation, Alike, constants, negations, sums, differences, products, coefficients}
+use Rattle.rules.specs.Reciprocals.{ball-may-be-zero}
+use Rattle.rules.specs.Operation.{Operation, divides-by-zero, Alike, constants, negations, sums, differences, products, coefficients, reciprocals}
 use Rattle.refusals.specs.Answer.{value}
 use Rattle.rules.specs.Balls.{ball-result, ball-rule}
 use Rattle.rules.specs.Exact.{Exact, over-both, across}
-use Rattle.rules.proofs.Reach.{reach-accepted}
+use Rattle.rules.proofs.Reach.{step-accepted}
 use Rattle.rules.proofs.Rounding.{up-covers}
+use Rattle.rules.proofs.Zeros.{ball-away}
+use Rattle.rules.proofs.Reciprocal.{not-zero, inverse-encloses}
 use Rattle.whole.proofs.Ring.{Expr, worth, ring, neg, lit, _⊕_, _⊖_, _⊗_, x₀, x₁, x₂, x₃, x₄, x₅, x₆, x₇}
 use Rattle.whole.proofs.Size.{Within, none, more, size-by, bound, bounded, size-neg, size-add, size-sub, size-mul}
 
@@ -124,24 +128,41 @@ module _ (F : ℕ) {a b : Ball} {x y : Fraction} (p : Contains F a x) (q : Conta
       regroup : (m n k : ℕ) → m * n * k ≡ m * k * n
       regroup m n k = ap natAbs (ring (pos m ∷ pos n ∷ pos k ∷ []) (x₀ ⊗ x₁ ⊗ x₂) (x₀ ⊗ x₂ ⊗ x₁) refl)
 
-pub result-contains : (F : ℕ) {o : Operation Ball} {e : Operation Fraction} {x : Fraction} → Alike (Contains F) o e → Exact F e x → Contains F (ball-result F o) x
-result-contains F (constants c) e = rw e (record { near = centre-contains F c 0 })
-result-contains F (negations p) e = rw e (record { near = negation-contains F p })
-result-contains F (sums p q) e = rw e (record { near = sum-contains F p q })
-result-contains F (differences p q) e = rw e (record { near = difference-contains F p q })
-result-contains F (products {a} {b} p q) e = rw e (record { near = product-contains F p q (Round F (a .centre *ℤ b .centre)) })
-result-contains F (coefficients c r) e = e
+pub result-contains : (F : ℕ) {o : Operation Ball} {e : Operation Fraction} {x : Fraction} → Alike (Contains F) o e
+    → divides-by-zero ball-may-be-zero o ≡ false → Exact F e x → Contains F (ball-result F o) x
+result-contains F (constants c) z e = rw e (record { near = centre-contains F c 0 })
+result-contains F (negations p) z e = rw e (record { near = negation-contains F p })
+result-contains F (sums p q) z e = rw e (record { near = sum-contains F p q })
+result-contains F (differences p q) z e = rw e (record { near = difference-contains F p q })
+result-contains F (products {a} {b} p q) z e = rw e (record { near = product-contains F p q (Round F (a .centre *ℤ b .centre)) })
+result-contains F (coefficients c r) z e = e
+result-contains F (reciprocals {a} {x} p) z e =
+    rw (e .1)
+    (record {
+      near = inverse-encloses F (a .centre) (x .numerator) (a .margin) (x .denominator) (p .near) (ball-away a z);
+    })
 
 -- each ball rule: if the operands contain the fractions, the accepted result contains the exact result
 pub ball-contains : (F : ℕ) {o : Operation Ball} {e : Operation Fraction} {b : Ball} {x : Fraction} → Alike (Contains F) o e → ball-rule F o ≡ value b → Exact F e x → Contains F b x
-ball-contains F {o} {b} {x} p v e = subst (λ (r : Ball). Contains F r x) (reach-accepted ball-reach (ball-result F o) b v .0) (result-contains F p e)
+ball-contains F {o} {x} p v e =
+    let r = step-accepted ball-may-be-zero ball-reach o (ball-result F o) v in
+    subst (λ (c : Ball). Contains F c x) (r .same) (result-contains F p (r .divisible) e)
 
--- exact arithmetic has a result for every instruction, so the claims above speak of something
-pub exact-exists : (F : ℕ) (e : Operation Fraction) → (x : Fraction) × Exact F e x
-exact-exists F (Operation.constant c) = (_, refl)
-exact-exists F (Operation.negate a) = (_, refl)
-exact-exists F (Operation.add a b) = (_, refl)
-exact-exists F (Operation.subtract a b) = (_, refl)
-exact-exists F (Operation.multiply a b) = (_, refl)
-exact-exists F (Operation.coefficient c r) =
+-- exact arithmetic has a result for every instruction whose operands lie in balls that are not refused with 17
+result-exists : (F : ℕ) {o : Operation Ball} {e : Operation Fraction} → Alike (Contains F) o e → divides-by-zero ball-may-be-zero o ≡ false
+    → (x : Fraction) × Exact F e x
+result-exists F (constants c) z = (_, refl)
+result-exists F (negations p) z = (_, refl)
+result-exists F (sums p q) z = (_, refl)
+result-exists F (differences p q) z = (_, refl)
+result-exists F (products p q) z = (_, refl)
+result-exists F (coefficients c r) z =
     (record { numerator = c; denominator = Q F; at-least-one = pow-pos F }, record { near = centre-contains F c r })
+result-exists F (reciprocals {a} {x} p) z =
+    let away = ball-away a z in
+    (_, (not-zero F (a .centre) (x .numerator) (a .margin) (x .denominator) (p .near) away (x .at-least-one), refl))
+
+-- so it has one wherever the ball rule is accepted, and the claims above speak of something
+pub exact-exists : (F : ℕ) {o : Operation Ball} {e : Operation Fraction} {b : Ball} → Alike (Contains F) o e → ball-rule F o ≡ value b
+    → (x : Fraction) × Exact F e x
+exact-exists F {o} p v = result-exists F p (step-accepted ball-may-be-zero ball-reach o (ball-result F o) v .divisible)

@@ -3,12 +3,12 @@
 use mathlib.Core.Path.{_≡_, refl, sym, _∙_, ap, ap₂, subst}
 use mathlib.Core.List.{[], _∷_}
 use Prim.Native.Nat.{ℕ, zero, suc, _+_, _-_, _*_, _%_, _≤_, _<_}
-use native.Mathlib.Nat.{le-div-iff-mul-le, lt-div-mul-add, pow-suc}
+use native.Mathlib.Nat.{le-refl, le-trans, mul-le-mul-left, le-div-iff-mul-le, div-lt-iff-lt-mul, lt-div-mul-add, pow-suc}
 use native.Mathlib.Omega.{arith}
 use lib.IntN.{ℤ, pos, natAbs, _+ℤ_, _-ℤ_, _*ℤ_}
-use lib.Pow.{pow-pos, shr-mono}
+use lib.Pow.{pow-pos}
 use lib.Signed.{shrZ}
-use Rattle.rules.specs.Numbers.{Q, h, Round, Up}
+use Rattle.rules.specs.Numbers.{Q, h, Round, ceiling, Up}
 use Rattle.whole.proofs.Floor.{rest, rest-lt, rest-shift, floor-split, floor-shift}
 use Rattle.whole.proofs.Ring.{ring, _⊕_, _⊖_, _⊗_, x₀, x₁, x₂, x₃, x₄}
 use Rattle.whole.proofs.Size.{size-add, size-mul, size-gap}
@@ -56,17 +56,35 @@ round-loss F p =
     subst (λ (z : ℤ). natAbs z ≤ h F) (sym (round-lost F p))
     (size-gap (remainder F p) (h F) (omega (arith, remainder-lt F p, h-half F)) (omega arith))
 
+-- what is rounded up covers, and it is the least that does
+pub ceiling-covers : (p : ℕ) {q : ℕ} → 0 < q → p ≤ ceiling p q * q
+ceiling-covers p {q} h = omega (arith, lt-div-mul-add {a = p + (q - 1)} h)
+
+pub ceiling-at-most : (k : ℕ) {p q : ℕ} → 0 < q → p ≤ k * q → ceiling p q ≤ k
+ceiling-at-most k {p} {q} h l = omega (arith, div-lt-iff-lt-mul {x = p + (q - 1)} {y = k + 1} h .1 (omega (arith, spread)))
+  where
+    spread : (k + 1) * q ≡ k * q + q
+    spread = omega arith
+
+pub ceiling-least : (n p : ℕ) {q : ℕ} → 0 < q → n * q ≤ p + (q - 1) → n ≤ ceiling p q
+ceiling-least n p h l = le-div-iff-mul-le h .1 l
+
+-- it does not fall when more is divided, or by less
+pub ceiling-mono : {m n p q : ℕ} → 0 < q → m ≤ n → q ≤ p → ceiling m p ≤ ceiling n q
+ceiling-mono {m} {n} {p} {q} h l k =
+    ceiling-at-most (ceiling n q) (omega arith) (le-trans l (le-trans (ceiling-covers n h) (mul-le-mul-left (ceiling n q) k)))
+
 pub up-covers : (F p : ℕ) → p ≤ Up F p * Q F
 unfolding Up
-up-covers F p = omega (arith, lt-div-mul-add {a = p + (Q F - 1)} (pow-pos F), pow-pos F)
+up-covers F p = ceiling-covers p (pow-pos F)
 
 pub up-least : (F n p : ℕ) → n * Q F ≤ p + (Q F - 1) → n ≤ Up F p
 unfolding Up
-up-least F n p l = le-div-iff-mul-le (pow-pos F) .1 l
+up-least F n p l = ceiling-least n p (pow-pos F) l
 
 pub up-mono : (F : ℕ) {p q : ℕ} → p ≤ q → Up F p ≤ Up F q
 unfolding Up
-up-mono F l = shr-mono F (omega arith)
+up-mono F l = ceiling-mono (pow-pos F) l (le-refl (Q F))
 
 pub round-near : (F : ℕ) (p q : ℤ) → natAbs (Round F p -ℤ Round F q) ≤ Up F (natAbs (p -ℤ q))
 round-near F p q = up-least F _ _ (subst (λ (n : ℕ). n ≤ natAbs (p -ℤ q) + (Q F - 1)) (ap natAbs moved ∙ size-mul (Round F p -ℤ Round F q) (pos (Q F))) far)

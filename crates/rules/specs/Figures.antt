@@ -1,21 +1,27 @@
 -- Document 01, "Figures on each side of a limit": the marked ones, as one table of steps and what each must answer; and
--- a table for request b.
+-- a table each for requests b and e.
 use mathlib.Core.Path.{_≡_}
 use mathlib.Core.List.{List, [], _∷_, map}
 use Prim.Native.Nat.{ℕ}
 use lib.IntN.{ℤ, pos, negsuc}
 use Rattle.rules.specs.declared.Ball.{Ball}
 use Rattle.rules.specs.declared.Matryoshka.{Matryoshka}
-use Rattle.rules.specs.Operation.{Operation, add, multiply, coefficient}
+use Rattle.rules.specs.Operation.{Operation, add, multiply, coefficient, reciprocal}
 use Rattle.refusals.specs.Answer.{Answer, value, refused}
+use Rattle.rules.specs.Plain.{plain-rule}
 use Rattle.rules.specs.Balls.{ball, ball-rule}
 use Rattle.rules.specs.Matryoshki.{matryoshka, matryoshka-rule}
 
 pub data Step : Type 0 where
+  on-plain : ℕ → Operation ℤ → Step
   on-balls : ℕ → Operation Ball → Step
   on-matryoshki : ℕ → Operation Matryoshka → Step
 
 -- an answer's numbers, in the order in which the document writes them
+abbrev pub plain-numbers : Answer ℤ → Answer (List ℤ)
+plain-numbers (value x) = value (x ∷ [])
+plain-numbers (refused n) = refused n
+
 abbrev pub ball-numbers : Answer Ball → Answer (List ℤ)
 ball-numbers (value b) = value (b .centre ∷ pos (b .margin) ∷ [])
 ball-numbers (refused n) = refused n
@@ -24,9 +30,10 @@ abbrev pub matryoshka-numbers : Answer Matryoshka → Answer (List ℤ)
 matryoshka-numbers (value m) = value (m .middle ∷ pos (m .stray) ∷ pos (m .margin) ∷ [])
 matryoshka-numbers (refused n) = refused n
 
-abbrev pub step-answer : Step → Answer (List ℤ)
-step-answer (on-balls F o) = ball-numbers (ball-rule F o)
-step-answer (on-matryoshki F o) = matryoshka-numbers (matryoshka-rule F o)
+abbrev pub figure-answer : Step → Answer (List ℤ)
+figure-answer (on-plain F o) = plain-numbers (plain-rule F o)
+figure-answer (on-balls F o) = ball-numbers (ball-rule F o)
+figure-answer (on-matryoshki F o) = matryoshka-numbers (matryoshka-rule F o)
 
 pub record Figure : Type 0 where
   pub step : Step
@@ -38,7 +45,7 @@ s gives a = record { step = s; must = a }
 
 -- each step of a table gives what it must
 abbrev pub Hold : List Figure → Type 0
-Hold t = map (λ (f : Figure). step-answer (f .step)) t ≡ map (λ (f : Figure). f .must) t
+Hold t = map (λ (f : Figure). figure-answer (f .step)) t ≡ map (λ (f : Figure). f .must) t
 
 -- −15 is `negsuc 14`, −(14 + 1)
 abbrev pub figures : List Figure
@@ -71,4 +78,47 @@ coefficient-figures =
     (pos 10 ∷ pos 2 ∷ pos 7 ∷ []))
     ∷ (on-matryoshki 4 (multiply (matryoshka (pos 2) 0 0) (matryoshka (pos 80) 16 0)) gives value
     (pos 10 ∷ pos 2 ∷ pos 1 ∷ []))
+    ∷ []
+
+-- 1/(3 units) at scale 4 is 85 and a third; either sign, the ties at T/a = 1/2 and −1/2, 2^F and M, a margin of |a| − 1
+-- and of |a|, both ends of the scales, 17 before 11
+abbrev pub reciprocal-figures : List Figure
+reciprocal-figures =
+    (on-plain 4 (reciprocal (negsuc 2)) gives value (negsuc 84 ∷ []))
+    ∷ (on-plain 4 (reciprocal (pos 0)) gives refused 17)
+    ∷ (on-plain 0 (reciprocal (pos 2)) gives value (pos 1 ∷ []))
+    ∷ (on-plain 0 (reciprocal (negsuc 1)) gives value (pos 0 ∷ []))
+    ∷ (on-plain 16 (reciprocal (negsuc 2)) gives value (negsuc 1431655764 ∷ []))
+    ∷ (on-plain 16 (reciprocal (pos 2)) gives refused 11)
+    ∷ (on-plain 16 (reciprocal (pos 2147483647)) gives value (pos 2 ∷ []))
+    ∷ (on-balls 4 (reciprocal (ball (pos 3) 0)) gives value (pos 85 ∷ pos 1 ∷ []))
+    ∷ (on-balls 4 (reciprocal (ball (pos 3) 1)) gives value (pos 85 ∷ pos 44 ∷ []))
+    ∷ (on-balls 4 (reciprocal (ball (pos 3) 2)) gives value (pos 85 ∷ pos 172 ∷ []))
+    ∷ (on-balls 4 (reciprocal (ball (pos 3) 3)) gives refused 17)
+    ∷ (on-balls 4 (reciprocal (ball (negsuc 9) 2)) gives value (negsuc 25 ∷ pos 8 ∷ []))
+    ∷ (on-balls 4 (reciprocal (ball (pos 1) 0)) gives value (pos 256 ∷ pos 0 ∷ []))
+    ∷ (on-balls 4 (reciprocal (ball (negsuc 0) 0)) gives value (negsuc 255 ∷ pos 0 ∷ []))
+    ∷ (on-balls 4 (reciprocal (ball (pos 16) 0)) gives value (pos 16 ∷ pos 0 ∷ []))
+    ∷ (on-balls 4 (reciprocal (ball (pos 2147483647) 0)) gives value (pos 0 ∷ pos 1 ∷ []))
+    ∷ (on-balls 4 (reciprocal (ball (pos 512) 0)) gives value (pos 1 ∷ pos 1 ∷ []))
+    ∷ (on-balls 4 (reciprocal (ball (negsuc 511) 0)) gives value (pos 0 ∷ pos 1 ∷ []))
+    ∷ (on-balls 0 (reciprocal (ball (pos 1) 0)) gives value (pos 1 ∷ pos 0 ∷ []))
+    ∷ (on-balls 0 (reciprocal (ball (pos 2) 1)) gives value (pos 1 ∷ pos 2 ∷ []))
+    ∷ (on-balls 0 (reciprocal (ball (pos 2147483647) 0)) gives value (pos 0 ∷ pos 1 ∷ []))
+    ∷ (on-balls 16 (reciprocal (ball (pos 3) 0)) gives value (pos 1431655765 ∷ pos 1 ∷ []))
+    ∷ (on-balls 16 (reciprocal (ball (pos 2) 0)) gives refused 11)
+    ∷ (on-balls 16 (reciprocal (ball (pos 2) 2)) gives refused 17)
+    ∷ (on-balls 16 (reciprocal (ball (pos 2147483647) 0)) gives value (pos 2 ∷ pos 1 ∷ []))
+    ∷ (on-balls 16 (reciprocal (ball (pos 1073741824) 1073741823)) gives refused 11)
+    ∷ (on-matryoshki 4 (reciprocal (matryoshka (pos 24) 3 1)) gives value (pos 11 ∷ pos 2 ∷ pos 2 ∷ []))
+    ∷ (on-matryoshki 4 (reciprocal (matryoshka (negsuc 2) 1 1)) gives value (negsuc 84 ∷ pos 43 ∷ pos 129 ∷ []))
+    ∷ (on-matryoshki 4 (reciprocal (matryoshka (pos 16) 0 0)) gives value (pos 16 ∷ pos 0 ∷ pos 1 ∷ []))
+    ∷ (on-matryoshki 4 (reciprocal (matryoshka (pos 3) 2 0)) gives value (pos 85 ∷ pos 171 ∷ pos 1 ∷ []))
+    ∷ (on-matryoshki 4 (reciprocal (matryoshka (pos 3) 2 1)) gives refused 17)
+    ∷ (on-matryoshki 4 (reciprocal (matryoshka (pos 3) 0 3)) gives refused 17)
+    ∷ (on-matryoshki 0 (reciprocal (matryoshka (pos 1) 0 0)) gives value (pos 1 ∷ pos 0 ∷ pos 1 ∷ []))
+    ∷ (on-matryoshki 16 (reciprocal (matryoshka (pos 8) 1 1)) gives value
+    (pos 536870912 ∷ pos 76695845 ∷ pos 102261128 ∷ []))
+    ∷ (on-matryoshki 16 (reciprocal (matryoshka (pos 2) 0 0)) gives refused 11)
+    ∷ (on-matryoshki 16 (reciprocal (matryoshka (pos 2) 1 1)) gives refused 17)
     ∷ []

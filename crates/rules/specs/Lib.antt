@@ -1,6 +1,7 @@
--- Document 01's rules as definitions, in its order.
+-- Document 01's rules as definitions, in its order, with those of the requests.
 pub mod Numbers
 pub mod Values
+pub mod Reciprocals
 pub mod Operation
 pub mod Steps
 pub mod Plain

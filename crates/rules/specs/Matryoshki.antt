@@ -1,12 +1,14 @@
--- Document 01, "The instructions", the column "Matryoshka"; request b: "and the matryoshka (c, 0, r)".
-use Prim.Native.Nat.{ℕ, _+_, _*_}
+-- Document 01, "The instructions", the column "Matryoshka"; request b: "and the matryoshka (c, 0, r)"; request e: "for
+-- the matryoshka (A, R, r)".
+use Prim.Native.Nat.{ℕ, _+_, _-_, _*_}
 use lib.IntN.{ℤ, natAbs, negℤ, _+ℤ_, _-ℤ_, _*ℤ_}
 use Rattle.rules.specs.declared.Matryoshka.{Matryoshka}
-use Rattle.rules.specs.Numbers.{h, Round, Up}
+use Rattle.rules.specs.Numbers.{h, Round, ceiling, Up}
 use Rattle.rules.specs.Values.{matryoshka-reach}
-use Rattle.rules.specs.Operation.{Operation, constant, negate, add, subtract, multiply, coefficient}
+use Rattle.rules.specs.Reciprocals.{T, Inverse, matryoshka-may-be-zero}
+use Rattle.rules.specs.Operation.{Operation, constant, negate, add, subtract, multiply, coefficient, reciprocal}
 use Rattle.refusals.specs.Answer.{Answer}
-use Rattle.rules.specs.Steps.{within-reach}
+use Rattle.rules.specs.Steps.{step-answer}
 
 abbrev pub matryoshka : ℤ → ℕ → ℕ → Matryoshka
 matryoshka C R r = record { middle = C; stray = R; margin = r }
@@ -23,6 +25,16 @@ matryoshka-product F x y =
     matryoshka (Round F (A *ℤ B)) (Up F ((natAbs A + R) * S + natAbs B * R))
     (Up F ((natAbs A + R + r) * s + (natAbs B + S) * r + h F))
 
+-- "with t = |A|−R: middle the floor of T/A + 1/2, stray T·R/(t·|A|) rounded up, margin T·r/((t−r)·t) rounded up, plus
+-- 1"
+abbrev pub matryoshka-reciprocal : ℕ → Matryoshka → Matryoshka
+matryoshka-reciprocal F x =
+    let A = x .middle in
+    let R = x .stray in
+    let r = x .margin in
+    let t = natAbs A - R in
+    matryoshka (Inverse F A) (ceiling (T F * R) (t * natAbs A)) (ceiling (T F * r) ((t - r) * t) + 1)
+
 abbrev pub matryoshka-result : ℕ → Operation Matryoshka → Matryoshka
 matryoshka-result F (constant c) = matryoshka c 0 0
 matryoshka-result F (negate x) = matryoshka (negℤ (x .middle)) (x .stray) (x .margin)
@@ -30,6 +42,7 @@ matryoshka-result F (add x y) = matryoshka (x .middle +ℤ y .middle) (x .stray 
 matryoshka-result F (subtract x y) = matryoshka (x .middle -ℤ y .middle) (x .stray + y .stray) (x .margin + y .margin)
 matryoshka-result F (multiply x y) = matryoshka-product F x y
 matryoshka-result F (coefficient c r) = matryoshka c 0 r
+matryoshka-result F (reciprocal x) = matryoshka-reciprocal F x
 
 abbrev pub matryoshka-rule : ℕ → Operation Matryoshka → Answer Matryoshka
-matryoshka-rule F o = within-reach matryoshka-reach (matryoshka-result F o)
+matryoshka-rule F o = step-answer matryoshka-may-be-zero matryoshka-reach o (matryoshka-result F o)

@@ -28,6 +28,10 @@ floor z q = shrZ z q
 unfoldable pub Round : ℕ → ℤ → ℤ
 Round F p = floor (p +ℤ pos (h F)) (Q F)
 
+-- p/q rounded up, for q at least 1
+abbrev pub ceiling : ℕ → ℕ → ℕ
+ceiling p q = (p + (q - 1)) / q
+
 -- "Up(p) = p/Q rounded up, for p at least 0."
 unfoldable pub Up : ℕ → ℕ → ℕ
-Up F p = (p + (Q F - 1)) / Q F
+Up F p = ceiling p (Q F)

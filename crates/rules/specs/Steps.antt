@@ -1,6 +1,7 @@
--- A step's answer: its result where that is within reach; and what each case of the code's answers stands for.
+-- A step's answer: its result where that is there and within reach; and what each case of the code's answers stands
+-- for.
 use mathlib.Core.Path.{_≡_}
-use mathlib.Core.Bool.{cond}
+use mathlib.Core.Bool.{Bool, cond}
 use Prim.Native.Nat.{ℕ}
 use lib.Dec.{leb}
 use lib.IntN.{ℤ}
@@ -12,14 +13,19 @@ use Rattle.rules.specs.declared.BallStep.{BallStep}
 use Rattle.rules.specs.declared.BallStep.the-variants as ball
 use Rattle.rules.specs.declared.MatryoshkaStep.{MatryoshkaStep}
 use Rattle.rules.specs.declared.MatryoshkaStep.the-variants as matryoshka
-use Rattle.refusals.specs.declared.Refusal.the-variants.{OutOfReach}
+use Rattle.refusals.specs.declared.Refusal.the-variants.{OutOfReach, MayBeZero}
 use Rattle.refusals.specs.Answer.{Answer, value, refuse}
 use Rattle.rules.specs.Numbers.{M}
-use Rattle.rules.specs.Operation.{Operation}
+use Rattle.rules.specs.Operation.{Operation, divides-by-zero}
 
 -- "A step is refused when its result has too large a reach."
 unfoldable pub within-reach : {A : Type 0} → (A → ℕ) → A → Answer A
 within-reach reach a = cond (leb (reach a) M) (value a) (refuse OutOfReach)
+
+-- request e: "17 at the step, before its 11"; a is the instruction's result
+abbrev pub step-answer : {A : Type 0} → (A → Bool) → (A → ℕ) → Operation A → A → Answer A
+step-answer may-be-zero reach o a =
+    cond (divides-by-zero may-be-zero o) (refuse MayBeZero) (within-reach reach a)
 
 abbrev pub plain-answer : PlainStep → Answer ℤ
 plain-answer (plain.Value x) = value x

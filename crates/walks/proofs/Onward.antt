@@ -21,21 +21,21 @@ use Rattle.formulas.specs.Run.{Walk, finished, stopped, with-values, onward, ru
 use Rattle.walks.proofs.Programs.{Program, program-smaller, Split, program-split}
 
 module _ {A : Type 0} (rule : Operation A → Answer A) (d : A) where
-  pub record Onward (s : List ℕ) (c₀ c : Cursor) (m l k : ℕ) (vs₀ vs : List A) : Type 0 where
+  pub record Onward (s : List ℕ) (F : ℕ) (c₀ c : Cursor) (m l k : ℕ) (vs₀ vs : List A) : Type 0 where
     pub few : k ≤ l
-    pub start : Program s c₀ l m
-    pub rest : Program s c (l - k) (m + k)
+    pub start : Program s F c₀ l m
+    pub rest : Program s F c (l - k) (m + k)
     pub same : run rule d (rest .all .got) vs ≡ run rule d (start .all .got) vs₀
     pub last : rest .all .left ≡ start .all .left
     pub near : c .at ≤ c₀ .at + widest * k
     pub stands : c .at + all-wide (rest .all .got) ≡ c₀ .at + all-wide (start .all .got)
 
   -- the same instructions, with their number and the first value's number written another way
-  abbrev renamed : {s : List ℕ} {c : Cursor} {n v k w : ℕ} → n ≡ k → v ≡ w → Program s c n v → Program s c k w
-  renamed {s} {c} e f p = record { all = p .all; reads = subst₂ (λ (k w : ℕ). read (several instruction k w) (before s c) ≡ value (p .all)) e f (p .reads) }
+  abbrev renamed : {s : List ℕ} {F : ℕ} {c : Cursor} {n v k w : ℕ} → n ≡ k → v ≡ w → Program s F c n v → Program s F c k w
+  renamed {s} {F} {c} e f p = record { all = p .all; reads = subst₂ (λ (k w : ℕ). read (several (instruction F) k w) (before s c) ≡ value (p .all)) e f (p .reads) }
 
-  pub onward-start : {s : List ℕ} {c : Cursor} {m l : ℕ} (vs : List A) → Program s c l m → Onward s c c m l 0 vs vs
-  onward-start {s} {c} {m} {l} vs p = record { few = omega arith; start = p; rest = renamed all first p; same = refl; last = refl; near = omega arith; stands = refl }
+  pub onward-start : {s : List ℕ} {F : ℕ} {c : Cursor} {m l : ℕ} (vs : List A) → Program s F c l m → Onward s F c c m l 0 vs vs
+  onward-start {s} {F} {c} {m} {l} vs p = record { few = omega arith; start = p; rest = renamed all first p; same = refl; last = refl; near = omega arith; stands = refl }
     where
       all : l ≡ l - 0
       all = omega arith
@@ -44,24 +44,24 @@ module _ {A : Type 0} (rule : Operation A → Answer A) (d : A) where
       first = omega arith
 
   -- nothing is left to read
-  none-left : {s : List ℕ} {c₀ c : Cursor} {m l k : ℕ} {vs₀ vs : List A} (o : Onward s c₀ c m l k vs₀ vs) → k ≡ l
+  none-left : {s : List ℕ} {F : ℕ} {c₀ c : Cursor} {m l k : ℕ} {vs₀ vs : List A} (o : Onward s F c₀ c m l k vs₀ vs) → k ≡ l
       → _≡_ {A = Answer (Read (List Instruction))} (value (record { got = []; left = before s c })) (value (o .rest .all))
   unfolding several
-  none-left {s} {c} {m} {l} {k} o e = subst (λ (n : ℕ). read (several instruction n (m + k)) (before s c) ≡ value (o .rest .all)) zero-left (o .rest .reads)
+  none-left {s} {F} {c} {m} {l} {k} o e = subst (λ (n : ℕ). read (several (instruction F) n (m + k)) (before s c) ≡ value (o .rest .all)) zero-left (o .rest .reads)
     where
       zero-left : l - k ≡ 0
       zero-left = omega arith
 
   -- what the walk gives is what the whole run gives
-  pub onward-ends : {s : List ℕ} {c₀ c : Cursor} {m l k : ℕ} {vs₀ vs : List A} (o : Onward s c₀ c m l k vs₀ vs) → k ≡ l → run rule d (o .start .all .got) vs₀ ≡ finished vs
+  pub onward-ends : {s : List ℕ} {F : ℕ} {c₀ c : Cursor} {m l k : ℕ} {vs₀ vs : List A} (o : Onward s F c₀ c m l k vs₀ vs) → k ≡ l → run rule d (o .start .all .got) vs₀ ≡ finished vs
   onward-ends {vs} o e =
       sym (o .same) ∙ ap (λ (is : List Instruction). run rule d is vs) (sym (ap (λ (r : Read (List Instruction)). r .got) (same-value (none-left o e))))
 
   -- and it stands after the instructions, however they were read
-  pub onward-stands : {s : List ℕ} {c₀ c : Cursor} {m l k : ℕ} {vs₀ vs : List A} (o : Onward s c₀ c m l k vs₀ vs)
-      {x : Read (List Instruction)} → k ≡ l → read (several instruction l m) (before s c₀) ≡ value x
+  pub onward-stands : {s : List ℕ} {F : ℕ} {c₀ c : Cursor} {m l k : ℕ} {vs₀ vs : List A} (o : Onward s F c₀ c m l k vs₀ vs)
+      {x : Read (List Instruction)} → k ≡ l → read (several (instruction F) l m) (before s c₀) ≡ value x
       → (before s c ≡ x .left) × (c .at ≡ c₀ .at + all-wide (x .got))
-  onward-stands {s} {c₀} {c} {m} {l} {k} o {x} e r =
+  onward-stands {s} {F} {c₀} {c} {m} {l} {k} o {x} e r =
       let none = same-value (none-left o e) in
       let same = same-value (sym (o .start .reads) ∙ r) in (
         ap (λ (r : Read (List Instruction)). r .left) none ∙ o .last ∙ ap (λ (r : Read (List Instruction)). r .left) same,
@@ -73,24 +73,24 @@ module _ {A : Type 0} (rule : Operation A → Answer A) (d : A) where
         ),
       )
 
-  module _ {s : List ℕ} {c₀ c : Cursor} {m l k : ℕ} {vs₀ vs : List A} (o : Onward s c₀ c m l k vs₀ vs) (less : k < l) where
-    split : Split s c (l - (k + 1)) (m + k) (o .rest .all)
+  module _ {s : List ℕ} {F : ℕ} {c₀ c : Cursor} {m l k : ℕ} {vs₀ vs : List A} (o : Onward s F c₀ c m l k vs₀ vs) (less : k < l) where
+    split : Split s F c (l - (k + 1)) (m + k) (o .rest .all)
     split = program-split (renamed one-left refl (o .rest))
       where
         one-left : l - k ≡ suc (l - (k + 1))
         one-left = omega arith
 
     pub onward-readable : Readable s c
-    onward-readable = record { below = m + k; all = split .here; reads = split .reads-here }
+    onward-readable = record { scale = F; below = m + k; all = split .here; reads = split .reads-here }
 
     module _ {i : Instruction} {e : Cursor} (decodes : Decodes s c i e) where
       is-here : i ≡ split .here .got
-      is-here = decodes .decoded (m + k) (split .here) (split .reads-here) .0
+      is-here = decodes .decoded F (m + k) (split .here) (split .reads-here) .0
 
-      pub onward-smaller : Smaller (m + k) i
-      onward-smaller = subst (Smaller (m + k)) (sym is-here) (head (subst (Each Smaller (m + k)) (split .both) (program-smaller (o .rest))))
+      pub onward-smaller : Smaller F (m + k) i
+      onward-smaller = subst (Smaller F (m + k)) (sym is-here) (head (subst (Each (Smaller F) (m + k)) (split .both) (program-smaller (o .rest))))
         where
-          head : {v : ℕ} {j : Instruction} {js : List Instruction} → Each Smaller v (j ∷ js) → Smaller v j
+          head : {v : ℕ} {j : Instruction} {js : List Instruction} → Each (Smaller F) v (j ∷ js) → Smaller F v j
           head (one p ps) = p
 
       by-step : (a : Answer A) → rule (with-values d vs i) ≡ a → run rule d (o .start .all .got) vs₀ ≡ onward vs (λ ws. run rule d (split .rest .got) ws) a
@@ -102,7 +102,7 @@ module _ {A : Type 0} (rule : Operation A → Answer A) (d : A) where
       pub onward-stops : {n : ℕ} → rule (with-values d vs i) ≡ refused n → run rule d (o .start .all .got) vs₀ ≡ stopped n vs
       onward-stops {n} r = by-step (refused n) r
 
-      pub onward-more : {v : A} → rule (with-values d vs i) ≡ value v → Onward s c₀ e m l (k + 1) vs₀ (vs ++ v ∷ [])
+      pub onward-more : {v : A} → rule (with-values d vs i) ≡ value v → Onward s F c₀ e m l (k + 1) vs₀ (vs ++ v ∷ [])
       onward-more {v} r =
           record {
             few = omega arith;
@@ -111,8 +111,8 @@ module _ {A : Type 0} (rule : Operation A → Answer A) (d : A) where
                 record {
                   all = split .rest;
                   reads =
-                      subst₂ (λ (w : ℕ) (bs : List ℕ). read (several instruction (l - (k + 1)) w) bs ≡ value (split .rest)) next
-                      (sym (decodes .decoded (m + k) (split .here) (split .reads-here) .1)) (split .reads-rest);
+                      subst₂ (λ (w : ℕ) (bs : List ℕ). read (several (instruction F) (l - (k + 1)) w) bs ≡ value (split .rest)) next
+                      (sym (decodes .decoded F (m + k) (split .here) (split .reads-here) .1)) (split .reads-rest);
                 };
             same = sym (by-step (value v) r);
             last = split .last ∙ o .last;
@@ -124,6 +124,6 @@ module _ {A : Type 0} (rule : Operation A → Answer A) (d : A) where
           next = omega arith
 
   -- the run of the instructions that stand at the start, however they were read
-  pub onward-whole : {s : List ℕ} {c₀ c : Cursor} {m l k : ℕ} {vs₀ vs : List A} (o : Onward s c₀ c m l k vs₀ vs) {x : Read (List Instruction)} {w : Walk A}
-      → read (several instruction l m) (before s c₀) ≡ value x → run rule d (o .start .all .got) vs₀ ≡ w → run rule d (x .got) vs₀ ≡ w
+  pub onward-whole : {s : List ℕ} {F : ℕ} {c₀ c : Cursor} {m l k : ℕ} {vs₀ vs : List A} (o : Onward s F c₀ c m l k vs₀ vs) {x : Read (List Instruction)} {w : Walk A}
+      → read (several (instruction F) l m) (before s c₀) ≡ value x → run rule d (o .start .all .got) vs₀ ≡ w → run rule d (x .got) vs₀ ≡ w
   onward-whole {vs₀} o e r = ap (λ (y : Read (List Instruction)). run rule d (y .got) vs₀) (same-value (sym e ∙ o .start .reads)) ∙ r

@@ -16,32 +16,32 @@ use Rattle.packed.proofs.InTurn.{read-bind}
 use Rattle.refusals.proofs.Answers.{first-of, same-value}
 use Rattle.packed.proofs.WellFormed.{read-gives, several-gives, instruction-gives}
 
--- so many instructions stand at the cursor, the first of which makes value v
-pub record Program (s : List ℕ) (c : Cursor) (count v : ℕ) : Type 0 where
+-- so many instructions of a formula of scale F stand at the cursor, the first of which makes value v
+pub record Program (s : List ℕ) (F : ℕ) (c : Cursor) (count v : ℕ) : Type 0 where
   pub all : Read (List Instruction)
-  pub reads : read (program count v) (before s c) ≡ value all
+  pub reads : read (program F count v) (before s c) ≡ value all
 
-pub program-smaller : {s : List ℕ} {c : Cursor} {n v : ℕ} (p : Program s c n v) → Each Smaller v (p .all .got)
-program-smaller {s} {c} {n} {v} p = read-gives (several-gives instruction-gives n v) (are-bits-drop (c .at) (bits-are s)) (p .reads) .0
+pub program-smaller : {s : List ℕ} {F : ℕ} {c : Cursor} {n v : ℕ} (p : Program s F c n v) → Each (Smaller F) v (p .all .got)
+program-smaller {s} {F} {c} {n} {v} p = read-gives (several-gives (instruction-gives F) n v) (are-bits-drop (c .at) (bits-are s)) (p .reads) .0
 
 -- the first instruction, and the bits after it hold the others
-pub record Split (s : List ℕ) (c : Cursor) (n v : ℕ) (all : Read (List Instruction)) : Type 0 where
+pub record Split (s : List ℕ) (F : ℕ) (c : Cursor) (n v : ℕ) (all : Read (List Instruction)) : Type 0 where
   pub here : Read Instruction
-  pub reads-here : read (instruction v) (before s c) ≡ value here
+  pub reads-here : read (instruction F v) (before s c) ≡ value here
   pub rest : Read (List Instruction)
-  pub reads-rest : read (several instruction n (suc v)) (here .left) ≡ value rest
+  pub reads-rest : read (several (instruction F) n (suc v)) (here .left) ≡ value rest
   pub both : all .got ≡ here .got ∷ rest .got
   pub last : rest .left ≡ all .left
 
-pub program-split : {s : List ℕ} {c : Cursor} {n v : ℕ} (p : Program s c (suc n) v) → Split s c n v (p .all)
+pub program-split : {s : List ℕ} {F : ℕ} {c : Cursor} {n v : ℕ} (p : Program s F c (suc n) v) → Split s F c n v (p .all)
 unfolding several
-program-split {s} {c} {n} {v} p =
-    let after : Instruction → Form (List Instruction) = λ a. several instruction n (suc v) >>= λ more. done (a ∷ more) in
-    let a = first-of (read (instruction v) (before s c)) (λ x. read (after (x .got)) (x .left)) (sym (read-bind (instruction v) after (before s c)) ∙ p .reads) in
+program-split {s} {F} {c} {n} {v} p =
+    let after : Instruction → Form (List Instruction) = λ a. several (instruction F) n (suc v) >>= λ more. done (a ∷ more) in
+    let a = first-of (read (instruction F v) (before s c)) (λ x. read (after (x .got)) (x .left)) (sym (read-bind (instruction F v) after (before s c)) ∙ p .reads) in
     let h = a .first in
     let b =
-    first-of (read (several instruction n (suc v)) (h .left)) (λ y. value (record { got = h .got ∷ y .got; left = y .left }))
-    (sym (read-bind (several instruction n (suc v)) (λ more. done (h .got ∷ more)) (h .left)) ∙ a .then-was) in
+    first-of (read (several (instruction F) n (suc v)) (h .left)) (λ y. value (record { got = h .got ∷ y .got; left = y .left }))
+    (sym (read-bind (several (instruction F) n (suc v)) (λ more. done (h .got ∷ more)) (h .left)) ∙ a .then-was) in
     record {
       here = h;
       reads-here = a .was;

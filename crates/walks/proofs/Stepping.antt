@@ -7,19 +7,20 @@ use Rattle.whole.proofs.Machine.{back, back-is}
 use Rattle.refusals.specs.Answer.{Answer}
 use Rattle.rules.specs.Numbers.{M}
 use Rattle.rules.specs.Values.{Allowed}
+use Rattle.rules.specs.Reciprocals.{top-reciprocal-scale}
 use Rattle.rules.specs.Steps.{AtEveryScale}
-use Rattle.rules.specs.Operation.{constant, negate, add, subtract, multiply, coefficient}
+use Rattle.rules.specs.Operation.{constant, negate, add, subtract, multiply, coefficient, reciprocal}
 use Rattle.rules.specs.Plain.{plain-rule}
 use Rattle.formulas.specs.declared.Instruction.{Instruction}
-use Rattle.formulas.specs.declared.Instruction.the-variants.{Constant, Negate, Add, Subtract, Multiply, Coefficient}
+use Rattle.formulas.specs.declared.Instruction.the-variants.{Constant, Negate, Add, Subtract, Multiply, Coefficient, Reciprocal}
 use Rattle.formulas.specs.Formula.{Smaller}
 use Rattle.formulas.specs.Run.{with-values}
 use Rattle.formulas.specs.Kinds.{Kind}
 use Rattle.walks.specs.Walks.{Named, Operand, Steppable, Stepped}
 
 module _ (K : Kind) {F made : ℕ} {i : Instruction} {l : K .Lists} (p : Steppable K F i made l) where
-  smaller-as : {j : Instruction} → i ≡ j → Smaller made j
-  smaller-as e = subst (Smaller made) e (p .smaller)
+  smaller-as : {j : Instruction} → i ≡ j → Smaller F made j
+  smaller-as e = subst (Smaller F made) e (p .smaller)
 
   constant-allowed : {c : ℤ} → i ≡ Constant c → Allowed c
   constant-allowed e = smaller-as e
@@ -50,6 +51,12 @@ module _ (K : Kind) {F made : ℕ} {i : Instruction} {l : K .Lists} (p : Steppab
 
   pub multiply-second : {a b : ℕ} → i ≡ Multiply a b → Named K made b l
   multiply-second e = record { below = smaller-as e .1; room = p .room; legal = p .legal }
+
+  pub reciprocal-named : {a : ℕ} → i ≡ Reciprocal a → Named K made a l
+  reciprocal-named e = record { below = smaller-as e .1; room = p .room; legal = p .legal }
+
+  pub reciprocal-scaled : {a : ℕ} → i ≡ Reciprocal a → F ≤ top-reciprocal-scale
+  reciprocal-scaled e = smaller-as e .0
 
 -- a constant as the code reads it is the constant
 read-back : (c : ℤ) → Allowed c → back c ≡ c
@@ -84,6 +91,9 @@ module _ (K : Kind) {F made : ℕ} {i : Instruction} {l : K .Lists} {got : Answe
   pub did-coefficient : {c : ℤ} {r : ℕ} → Steppable K F i made l → i ≡ Coefficient c r → AtEveryScale (K .rule) (coefficient (back c) r) got
       → Stepped K F i made l got
   did-coefficient {c} {r} p e g = did e (g .every F ∙ ap (λ (z : ℤ). K .rule F (coefficient z r)) (read-back c (coefficient-allowed K p e)))
+
+  pub did-reciprocal : {a : ℕ} {x : K .Value} → i ≡ Reciprocal a → Operand K made a l x → got ≡ K .rule F (reciprocal x) → Stepped K F i made l got
+  did-reciprocal e p g = did e (g ∙ ap (λ (z : K .Value). K .rule F (reciprocal z)) (p .is))
 
 -- a plain value has no margin: the rule makes the same of a coefficient and of its centre as a constant
 pub bare-coefficient : {c : ℤ} {r : ℕ} {got : Answer ℤ} → AtEveryScale plain-rule (constant c) got → AtEveryScale plain-rule (coefficient c r) got

@@ -41,7 +41,7 @@ pub record Walking (K : Kind) (s : List ℕ) (h : Header) (c : Cursor) (k : ℕ)
   pub formula-there : Formed s h
   pub room : places h ≤ K .room old
   pub values : List (K .Value)
-  pub onward : Onward (K .rule (h .scale)) (K .nothing) s first c (h .inputs) (h .instructions) k (K .front (h .inputs) old) values
+  pub onward : Onward (K .rule (h .scale)) (K .nothing) s (h .scale) first c (h .inputs) (h .instructions) k (K .front (h .inputs) old) values
   pub legal : All (K .Legal) values
   pub many : length values ≡ h .inputs + k
   pub holds : K .Holds values old now

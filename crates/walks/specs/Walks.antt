@@ -69,7 +69,7 @@ pub record Operand (K : Kind) (made i : ℕ) (l : K .Lists) (v : K .Value) : Typ
 -- what one instruction on the first `made` values asks, and what answers it
 pub record Steppable (K : Kind) (F : ℕ) (i : Instruction) (made : ℕ) (l : K .Lists) : Type 0 where
   pub scale-small : F ≤ top-scale
-  pub smaller : Smaller made i
+  pub smaller : Smaller F made i
   pub room : made ≤ K .room l
   pub legal : All (K .Legal) (K .front made l)
 

@@ -9,7 +9,8 @@ use Rattle.refusals.specs.Answer.{Answer}
 use Rattle.rules.specs.declared.Ball.{Ball}
 use Rattle.rules.specs.declared.Matryoshka.{Matryoshka}
 use Rattle.rules.specs.Values.{ball-reach, matryoshka-reach}
-use Rattle.rules.specs.Operation.{Operation, constant, negate, add, subtract, multiply, coefficient}
+use Rattle.rules.specs.Operation.{Operation, constant, negate, add, subtract, multiply}
+use Rattle.rules.specs.Operation.{coefficient, reciprocal}
 use Rattle.rules.specs.Steps.{within-reach}
 use Rattle.rules.specs.Balls.{ball, ball-rule}
 use Rattle.rules.specs.Matryoshki.{matryoshka, matryoshka-rule}
@@ -45,30 +46,33 @@ but-for made reach rule (add a b) = rule (add a b)
 but-for made reach rule (subtract a b) = rule (subtract a b)
 but-for made reach rule (multiply a b) = rule (multiply a b)
 but-for made reach rule (coefficient c r) = within-reach reach (made c r)
+but-for made reach rule (reciprocal a) = rule (reciprocal a)
 
--- a ball run that takes a coefficient for an exact constant
-abbrev pub as-exact : ℕ → Operation Ball → Answer Ball
-as-exact F = but-for (λ c r. ball c 0) ball-reach (ball-rule F)
-
-abbrev pub drops-margins : Program ball-kind → Program ball-kind
-drops-margins q i =
+-- a ball run and an admission by another rule
+abbrev pub runs-by : (ℕ → Operation Ball → Answer Ball) → Program ball-kind → Program ball-kind
+runs-by rule q i =
     let given = balls (i .readings .centres) (map natAbs (i .readings .margins)) in
-    let os = outputs-by ball-kind as-exact (i .bytes) given in
+    let os = outputs-by ball-kind rule (i .bytes) given in
     let old = i .held .output in
     let output = ball-lists (over (centres-of os) (old .centres)) (over (margins-of os) (old .margins)) in
     record { reply = q i .reply; left = lent ball-kind (q i .left .work) output }
 
--- an admission that takes a coefficient's margin for its stray
-abbrev pub as-stray : ℕ → Operation Matryoshka → Answer Matryoshka
-as-stray F = but-for (λ c r. matryoshka c r 0) matryoshka-reach (matryoshka-rule F)
-
-abbrev pub margins-as-strays : Program matryoshka-kind → Program matryoshka-kind
-margins-as-strays q i =
+abbrev pub admits-by : (ℕ → Operation Matryoshka → Answer Matryoshka) → Program matryoshka-kind
+    → Program matryoshka-kind
+admits-by rule q i =
     let domain = i .readings in
     let given = matryoshki (domain .middles) (map natAbs (domain .strays)) (map natAbs (domain .margins)) in
-    let os = outputs-by matryoshka-kind as-stray (i .bytes) given in
+    let os = outputs-by matryoshka-kind rule (i .bytes) given in
     let old = i .held .output in
     let strays = over (strays-of os) (old .strays) in
     let margins = over (static-margins-of os) (old .margins) in
     let output = matryoshka-lists (over (middles-of os) (old .middles)) strays margins in
     record { reply = q i .reply; left = lent matryoshka-kind (q i .left .work) output }
+
+-- a ball run that takes a coefficient for an exact constant
+abbrev pub drops-margins : Program ball-kind → Program ball-kind
+drops-margins = runs-by (λ F. but-for (λ c r. ball c 0) ball-reach (ball-rule F))
+
+-- an admission that takes a coefficient's margin for its stray
+abbrev pub margins-as-strays : Program matryoshka-kind → Program matryoshka-kind
+margins-as-strays = admits-by (λ F. but-for (λ c r. matryoshka c r 0) matryoshka-reach (matryoshka-rule F))

@@ -13,6 +13,7 @@ formula-size-spec =
     (λ c. search needs)
     (λ c. search header-stops)
     (λ c κs. search needs)
+    (λ c κs. search needs)
     (λ c κs. search body-asks)
     (λ c. search needs)
     (λ c. search needs)

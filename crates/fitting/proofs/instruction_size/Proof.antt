@@ -1,6 +1,6 @@
 -- `instruction_size` meets its contract. Assumes nothing.
 use borrow.Author.Needs.{needs}
-use Rattle.fitting.proofs.Tests.{no-code, coefficient-sized, coefficient-unfit, constant-fits, constant-unfit}
+use Rattle.fitting.proofs.Tests.{from-five, handed-on, constant-fits, constant-unfit}
 use Rattle.fitting.proofs.Tests.{first-unfit, one-fits, two-fit, second-unfit}
 use Rattle.fitting.proofs.instruction_size.Statement.{statement}
 use Rattle.fitting.proofs.instruction_size.Tie as tie
@@ -10,11 +10,8 @@ instruction-size-spec =
     tie.close
     (tie.spec
     (λ c κs. search needs)
-    (λ c κs. search needs)
-    (λ c. search no-code)
-    (λ c κs. search needs)
-    (λ c. search coefficient-sized)
-    (λ c. search coefficient-unfit)
+    (λ c κs. search from-five)
+    (λ c. search handed-on)
     (λ c κs. search needs)
     (λ c κs. search needs)
     (λ c. search constant-fits)

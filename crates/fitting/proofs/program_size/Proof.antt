@@ -7,10 +7,10 @@ use Rattle.fitting.proofs.program_size.Statement.{statement}
 use Rattle.fitting.proofs.program_size.Tie as tie
 
 abbrev Inv-loop : tie.InvT-loop
-Inv-loop codes firsts seconds inputs bits₀ k₀ bits k = Program inputs codes firsts seconds k bits
+Inv-loop codes firsts seconds scale inputs bits₀ k₀ bits k = Program scale inputs codes firsts seconds k bits
 
 abbrev μ-loop : tie.MeasureT-loop
-μ-loop codes firsts seconds inputs bits₀ k₀ bits k = length codes - k
+μ-loop codes firsts seconds scale inputs bits₀ k₀ bits k = length codes - k
 
 pub program-size-spec : {M : Type 1} → statement M
 program-size-spec =

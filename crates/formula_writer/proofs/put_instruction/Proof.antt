@@ -2,6 +2,7 @@
 use borrow.Author.Needs.{needs}
 use Rattle.putting.proofs.Instructions.{code-natural, code-room, constant-allowed, constant-room, constant-put}
 use Rattle.putting.proofs.Instructions.{first-natural, one-near, one-room, one-put, code-near, first-near, both-near}
+use Rattle.putting.proofs.Instructions.{divisor-natural, divisor-near, divisor-room, divisor-put}
 use Rattle.putting.proofs.Instructions.{coefficient-handed, coefficient-done, second-natural, all-near, two-room, two-put}
 use Rattle.formula_writer.proofs.put_instruction.Statement.{statement}
 use Rattle.formula_writer.proofs.put_instruction.Tie as tie
@@ -19,6 +20,11 @@ put-instruction-spec =
     (λ c κs. search coefficient-handed)
     (λ c. search needs)
     (λ c. search coefficient-done)
+    (λ c κs. search divisor-natural)
+    (λ c. search divisor-near)
+    (λ c κs. search divisor-room)
+    (λ c. search needs)
+    (λ c. search divisor-put)
     (λ c κs. search first-natural)
     (λ c. search one-near)
     (λ c κs. search one-room)

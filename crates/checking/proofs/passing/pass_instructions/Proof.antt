@@ -8,10 +8,10 @@ use Rattle.checking.proofs.passing.pass_instructions.Statement.{stateme
 use Rattle.checking.proofs.passing.pass_instructions.Tie as tie
 
 abbrev Inv-loop : tie.InvT-loop
-Inv-loop s inputs count at₀ k₀ at k = Passing instruction widest s at₀ inputs count at k
+Inv-loop s scale inputs count at₀ k₀ at k = Passing (instruction scale) widest s at₀ inputs count at k
 
 abbrev μ-loop : tie.MeasureT-loop
-μ-loop s inputs count at₀ k₀ at k = count - k
+μ-loop s scale inputs count at₀ k₀ at k = count - k
 
 pub pass-instructions-spec : {M : Type 1} → statement M
 pass-instructions-spec =

@@ -7,10 +7,10 @@ use Rattle.checking.proofs.passing.pass_last.Statement.{statement}
 use Rattle.checking.proofs.passing.pass_last.Tie as tie
 
 abbrev Inv-loop : tie.InvT-loop
-Inv-loop s first count at₀ k₀ at k = Passing instruction widest s at₀ first count at k
+Inv-loop s scale first count at₀ k₀ at k = Passing (instruction scale) widest s at₀ first count at k
 
 abbrev μ-loop : tie.MeasureT-loop
-μ-loop s first count at₀ k₀ at k = count - k
+μ-loop s scale first count at₀ k₀ at k = count - k
 
 pub pass-last-spec : {M : Type 1} → statement M
 pass-last-spec =

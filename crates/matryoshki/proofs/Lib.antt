@@ -1,0 +1,2 @@
+-- What the proofs of the steps cite.
+pub mod Reciprocals
