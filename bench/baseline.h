@@ -1,4 +1,5 @@
-/* The four jobs, packing and reading back by hand in C, with the signatures of margins.h: what the proved library is measured against. */
+/* The four jobs, the ball job with doubles, packing and reading back by hand in C, with the signatures of margins.h: what the proved library
+ * is measured against. */
 #ifndef BASELINE_H
 #define BASELINE_H
 
@@ -8,6 +9,7 @@
 __typeof__(margins_check) baseline_check;
 __typeof__(margins_plain) baseline_plain;
 __typeof__(margins_ball) baseline_ball;
+__typeof__(margins_ball_doubles) baseline_ball_doubles;
 __typeof__(margins_admit) baseline_admit;
 __typeof__(margins_pack) baseline_pack;
 __typeof__(margins_unpack) baseline_unpack;

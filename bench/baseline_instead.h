@@ -2,6 +2,7 @@
 #define margins_check baseline_check
 #define margins_plain baseline_plain
 #define margins_ball baseline_ball
+#define margins_ball_doubles baseline_ball_doubles
 #define margins_admit baseline_admit
 #define margins_pack baseline_pack
 #define margins_unpack baseline_unpack

@@ -9,12 +9,12 @@
 #include <string.h>
 #include <time.h>
 
-enum { CHECK, PLAIN, BALL, ADMIT, PACK, UNPACK, JOBS };
+enum { CHECK, PLAIN, BALL, ADMIT, PACK, UNPACK, DOUBLES, JOBS };
 enum { BASELINE, LIBRARY, SIDES };
 enum { ROUNDS = 501, BATCH_NANOSECONDS = 20000, TRIED_RUNS = 100 };
 enum { VALUES = MARGINS_MOST_VALUES, OUTPUTS = MARGINS_MOST_OUTPUTS, STEPS = MARGINS_MOST_INSTRUCTIONS, BYTES = MARGINS_MOST_BYTES };
 
-static const char *const job_names[JOBS] = {"check", "plain", "ball", "admit", "pack", "unpack"};
+static const char *const job_names[JOBS] = {"check", "plain", "ball", "admit", "pack", "unpack", "doubles"};
 static const uint32_t growing[] = {16, 64, 256, 512};
 
 /* What a run leaves, cleared before two runs are compared. */
@@ -24,6 +24,7 @@ static struct {
     uint64_t work_margins[VALUES], output_margins[OUTPUTS];
     int64_t codes[STEPS], firsts[STEPS], seconds[STEPS];
     uint8_t bytes[BYTES];
+    double double_centres[OUTPUTS], double_margins[OUTPUTS];
 } left;
 
 typedef uint32_t run(const workload *w);
@@ -58,14 +59,21 @@ typedef uint32_t run(const workload *w);
     {                                                                                                                                    \
         return side##_unpack(w->bytes, w->length, left.codes, STEPS, left.firsts, STEPS, left.seconds, STEPS,                            \
                              left.output, OUTPUTS).refusal;                                                                              \
+    }                                                                                                                                    \
+    static uint32_t side##_doubles_run(const workload *w)                                                                                \
+    {                                                                                                                                    \
+        return side##_ball_doubles(w->bytes, w->length, w->middles, w->inputs, w->margins, w->inputs, left.work, VALUES,                 \
+                                   left.work_margins, VALUES, left.double_centres, OUTPUTS, left.double_margins, OUTPUTS).refusal;       \
     }
 
 RUNS(baseline)
 RUNS(margins)
 
 static run *const runs[SIDES][JOBS] = {
-    {baseline_check_run, baseline_plain_run, baseline_ball_run, baseline_admit_run, baseline_pack_run, baseline_unpack_run},
-    {margins_check_run, margins_plain_run, margins_ball_run, margins_admit_run, margins_pack_run, margins_unpack_run},
+    {baseline_check_run, baseline_plain_run, baseline_ball_run, baseline_admit_run, baseline_pack_run, baseline_unpack_run,
+     baseline_doubles_run},
+    {margins_check_run, margins_plain_run, margins_ball_run, margins_admit_run, margins_pack_run, margins_unpack_run,
+     margins_doubles_run},
 };
 
 typedef struct {

@@ -4,7 +4,7 @@ import re
 import subprocess
 import sys
 
-JOBS = ("check", "plain", "ball", "admit", "pack", "unpack")
+JOBS = ("check", "plain", "ball", "admit", "pack", "unpack", "doubles")
 WORKLOADS = ("dot product of 8", "polynomial of degree 15", "mix of 512", "coefficients, degree 21", "reciprocals, 8 quotients")
 BASELINE, LIBRARY = 0, 1
 RUNS = 100

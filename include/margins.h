@@ -5,7 +5,8 @@
  * pointer is not used. The memory of a list must be there and aligned for its type, and no list that is written may overlap another;
  * that is all that C cannot promise by itself.
  *
- * Readings, constants and results are whole counts of one unit, 2^-F, where F is the formula's scale.
+ * Readings, constants and results are whole counts of one unit, 2^-F, where F is the formula's scale; margins_ball_doubles alone gives
+ * results as doubles.
  *
  * C sees lists of one type as one and the same: each parameter says which list it is. Where a form with records is offered, a centre
  * cannot be swapped with its margin.
@@ -146,6 +147,7 @@ typedef char margins_reply_has_16_bytes[sizeof(margins_reply) == 16 ? 1 : -1];
 typedef char margins_formula_has_16_bytes[sizeof(margins_formula) == 16 ? 1 : -1];
 typedef char margins_packed_has_16_bytes[sizeof(margins_packed) == 16 ? 1 : -1];
 typedef char margins_reading_has_16_bytes[sizeof(margins_reading) == 16 ? 1 : -1];
+typedef char margins_double_has_8_bytes[sizeof(double) == 8 ? 1 : -1];
 
 /* In each run: a list of readings has exactly a place for each input; a work list has inputs + instructions places or more
  * (MARGINS_MOST_VALUES are always enough), an output list a place for each output or more (MARGINS_MOST_OUTPUTS).
@@ -181,6 +183,18 @@ MARGINS_MUST_USE margins_reply margins_ball(
     uint64_t *work_margins, size_t work_margins_length,      /* written: a margin for each value; inputs + instructions places */
     int64_t *output_centres, size_t output_centres_length,   /* written: a centre for each output */
     uint64_t *output_margins, size_t output_margins_length); /* written: a margin for each output */
+
+/* The ball run for a page that draws with doubles; it answers and refuses as margins_ball does. For each output centre/2^F and margin/2^F as
+ * doubles that are exactly these numbers: nothing is rounded, and a zero is plus zero. The work lists hold whole counts of units, as after
+ * margins_ball. Later places of the output lists, and with a refusal all, keep the bits that they held. */
+MARGINS_MUST_USE margins_reply margins_ball_doubles(
+    const uint8_t *formula, size_t formula_length,         /* read: the packed bytes */
+    const int64_t *centres, size_t centres_length,         /* read: what was read, one for each input; in units */
+    const int64_t *margins, size_t margins_length,         /* read: how far the truth may be from it, one for each input; at least 0 */
+    int64_t *work_centres, size_t work_centres_length,     /* written: a centre for each value; inputs + instructions places */
+    uint64_t *work_margins, size_t work_margins_length,    /* written: a margin for each value; inputs + instructions places */
+    double *output_centres, size_t output_centres_length,  /* written: centre/2^F for each output */
+    double *output_margins, size_t output_margins_length); /* written: margin/2^F for each output */
 
 /* A domain, once. Readings are inside it when each centre is within its stray of its middle, and each margin at most the domain's.
  * For each output the middle, the stray of its computed centre and the static margin: an exact result is within the static margin of

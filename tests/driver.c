@@ -1,6 +1,6 @@
-/* Runs framed cases from standard input and writes framed replies to standard output; frames.py and packing_frames.py tell the forms.
- * Each list is allocated at exactly its length, so that a memory checker sees every step beyond it. In half of the packing cases
- * sentinels stand behind each list that is written instead, so that a step beyond is seen without a checker. */
+/* Runs framed cases from standard input and writes framed replies to standard output; frames.py, packing_frames.py and doubles_frames.py tell
+ * the forms. Each list is allocated at exactly its length, so that a memory checker sees every step beyond it. In half of the cases of packing
+ * and of doubles sentinels stand behind each list that is written instead, so that a step beyond is seen without a checker. */
 #include "margins.h"
 
 #include <stdbool.h>
@@ -8,7 +8,7 @@
 #include <stdlib.h>
 #include <string.h>
 
-enum { CHECK, PLAIN, BALL, ADMIT, RECORDS, PACK, UNPACK };
+enum { CHECK, PLAIN, BALL, ADMIT, RECORDS, PACK, UNPACK, DOUBLES };
 enum { CODES, FIRSTS, SECONDS, OUTPUTS, PACKING_LISTS };
 enum { MOST_PARTS = 3, BEHIND = 8, BUFFER = 1 << 20 };
 
@@ -78,6 +78,21 @@ static uint64_t sentinel(size_t list_number, size_t index)
     return x ^ x >> 29;
 }
 
+/* In a list of doubles: NaNs with a payload, minus zeros and numbers of every size, so that a place is seen that was read as a double and
+ * written again; doubles_frames.py has the same. */
+static uint64_t double_sentinel(size_t list_number, size_t index)
+{
+    const uint64_t exponent = UINT64_C(0x7FF) << 52, x = sentinel(list_number, index);
+    switch (index % 4) {
+    case 0: return x | exponent;
+    case 1: return UINT64_C(1) << 63;
+    case 2: return x & ~exponent;
+    default: return x;
+    }
+}
+
+typedef uint64_t holding(size_t list_number, size_t index);
+
 static size_t bytes_of(list of)
 {
     return of.length * sizeof *of.places;
@@ -96,21 +111,21 @@ static list copy_list(list of)
     return (list){copy(of.places, bytes_of(of)), of.length};
 }
 
-static list lend(size_t list_number, size_t behind)
+static list lend(size_t list_number, size_t behind, holding *sentinel_at)
 {
     list made = {NULL, take_length()};
     made.places = allocate((made.length + behind) * sizeof *made.places);
     for (size_t i = 0; i < made.length + behind; i++) {
-        uint64_t held = sentinel(list_number, i);
+        uint64_t held = sentinel_at(list_number, i);
         memcpy(&made.places[i], &held, sizeof held);
     }
     return made;
 }
 
-static bool kept_behind(list lent, size_t list_number, size_t behind)
+static bool kept_behind(list lent, size_t list_number, size_t behind, holding *sentinel_at)
 {
     for (size_t i = lent.length; i < lent.length + behind; i++)
-        if ((uint64_t)lent.places[i] != sentinel(list_number, i))
+        if ((uint64_t)lent.places[i] != sentinel_at(list_number, i))
             return false;
     return true;
 }
@@ -179,7 +194,7 @@ static void run_case(int job, size_t number)
         kept[i] = copy_list(in[i]);
     }
     for (size_t i = 0; i < 2 * parts; i++)
-        lent[i] = lend(i, 0);
+        lent[i] = lend(i, 0, sentinel);
 
     if (job == CHECK) {
         margins_formula answer = margins_check(formula.bytes, formula.length);
@@ -274,7 +289,7 @@ static void unpack_case(size_t number)
     size_t behind = places_behind(number);
     packed formula = take_formula(number);
     for (size_t i = 0; i < PACKING_LISTS; i++)
-        lent[i] = lend(i, behind);
+        lent[i] = lend(i, behind, sentinel);
 
     margins_formula answer = margins_unpack(formula.bytes, formula.length, lent[CODES].places, lent[CODES].length,
                                             lent[FIRSTS].places, lent[FIRSTS].length, lent[SECONDS].places, lent[SECONDS].length,
@@ -282,12 +297,52 @@ static void unpack_case(size_t number)
     give(&answer, sizeof answer);
     uint8_t intact = same(formula.bytes, formula.kept, formula.length);
     for (size_t i = 0; i < PACKING_LISTS; i++)
-        intact = intact && kept_behind(lent[i], i, behind);
+        intact = intact && kept_behind(lent[i], i, behind, sentinel);
     give(&intact, sizeof intact);
 
     for (size_t i = 0; i < PACKING_LISTS; i++) {
         give(lent[i].places, bytes_of(lent[i]));
         free(lent[i].places);
+    }
+    free_formula(formula);
+}
+
+static holding *held_in(size_t list_number)
+{
+    return list_number < BALL ? sentinel : double_sentinel;
+}
+
+/* The bits of a double reach the reply as they stand in memory. */
+static void doubles_case(size_t number)
+{
+    list in[BALL], kept[BALL], lent[2 * BALL];
+    size_t behind = places_behind(number);
+    packed formula = take_formula(number);
+    for (size_t i = 0; i < BALL; i++) {
+        in[i] = take_list();
+        kept[i] = copy_list(in[i]);
+    }
+    for (size_t i = 0; i < 2 * BALL; i++)
+        lent[i] = lend(i, behind, held_in(i));
+
+    margins_reply answer = margins_ball_doubles(formula.bytes, formula.length, in[0].places, in[0].length, in[1].places, in[1].length,
+                                                lent[0].places, lent[0].length, (uint64_t *)lent[1].places, lent[1].length,
+                                                (double *)lent[2].places, lent[2].length, (double *)lent[3].places, lent[3].length);
+    give(&answer, sizeof answer);
+    uint8_t intact = same(formula.bytes, formula.kept, formula.length);
+    for (size_t i = 0; i < BALL; i++)
+        intact = intact && same(in[i].places, kept[i].places, bytes_of(in[i]));
+    for (size_t i = 0; i < 2 * BALL; i++)
+        intact = intact && kept_behind(lent[i], i, behind, held_in(i));
+    give(&intact, sizeof intact);
+
+    for (size_t i = 0; i < 2 * BALL; i++) {
+        give(lent[i].places, bytes_of(lent[i]));
+        free(lent[i].places);
+    }
+    for (size_t i = 0; i < BALL; i++) {
+        free(in[i].places);
+        free(kept[i].places);
     }
     free_formula(formula);
 }
@@ -302,6 +357,8 @@ int main(void)
             pack_case(number);
         else if (job == UNPACK)
             unpack_case(number);
+        else if (job == DOUBLES)
+            doubles_case(number);
         else if (job <= RECORDS)
             run_case(job, number);
         else

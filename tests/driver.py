@@ -9,12 +9,17 @@ def replies(command, some, form=frames):
     """The bytes of each reply, or none where the driver ended early. The form is the module that tells the frames of these cases."""
     asked = b"".join(map(form.asked, some))
     ended = subprocess.run(command, input=asked, stdout=subprocess.PIPE, check=False)
+    return None if ended.returncode else parted(ended.stdout, some, form)
+
+
+def parted(told, some, form):
+    """The replies one by one, or none where they are too few or too many bytes."""
     sizes = list(map(form.reply_size, some))
-    if ended.returncode or len(ended.stdout) != sum(sizes):
+    if len(told) != sum(sizes):
         return None
     found, start = [], 0
     for size in sizes:
-        found.append(ended.stdout[start : start + size])
+        found.append(told[start : start + size])
         start += size
     return found
 

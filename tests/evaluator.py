@@ -1,5 +1,5 @@
-"""A second evaluator, written from document 01 and document 02's requests b, c and e: the three runs in exact integers and fractions, and
-exact arithmetic on fractions.
+"""A second evaluator, written from document 01 and document 02's requests b, c, e and f: the three runs in exact integers and fractions, the
+ball's outputs as fractions, and exact arithmetic on fractions.
 
 A value is a tuple: (x,) in a plain run, (centre, margin) in a ball run, (middle, stray, margin) in an admission.
 """
@@ -144,6 +144,13 @@ def ball(data, readings, lengths):
 
 def admit(data, readings, lengths):
     return run(3, data, readings, lengths)
+
+
+def ball_doubles(data, readings, lengths):
+    """The ball run, each output as the two fractions that its doubles must be."""
+    refusal, place, values, outputs = ball(data, readings, lengths)
+    unit = 1 if refusal else 1 << formula(data)[0][0]
+    return refusal, place, values, [(Fraction(centre, unit), Fraction(margin, unit)) for centre, margin in outputs]
 
 
 def centre_of(scale, centre, _margin):

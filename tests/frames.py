@@ -83,6 +83,10 @@ def checked(data):
     return Wanted(0, 0, [], [], struct.pack("<IIHHI", 0, scale, m, n, l) + INTACT)
 
 
+def right(case, reply):
+    return wanted(case).reply == reply
+
+
 def told(case, reply):
     """A reply in words, each lent list with its numbers."""
     head = struct.unpack_from("<IIHHI" if case.job == "check" else "<IIQ", reply)

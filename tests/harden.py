@@ -6,13 +6,17 @@ import sys
 from itertools import islice
 
 import cases
+import doubles_cases
+import doubles_frames
 import frames
 import packing_cases
 import packing_frames
+from driver import parted
 
 EVERY = 4
 RANDOM = 10000
 RANDOM_PACKING = 4000
+RANDOM_DOUBLES = 4000
 CHECKER = ["valgrind", "--quiet", "--error-exitcode=9", "--leak-check=full"]
 
 
@@ -23,9 +27,9 @@ def random_bytes(rng):
     return data
 
 
-def random_case(rng):
+def random_case(rng, jobs=frames.JOBS):
     """Any bytes, any readings, lists of any length."""
-    job = rng.choice(frames.JOBS)
+    job = rng.choice(jobs)
     parts = frames.PARTS[job]
     data = random_bytes(rng)
     sizes = [rng.randrange(20)] * parts if job == "records" else [rng.randrange(20) for _ in range(parts)]
@@ -52,18 +56,20 @@ def survived(driver, form, some):
     """Whether the driver gives the replies that it should to these cases, and the checker finds nothing."""
     asked = b"".join(map(form.asked, some))
     ended = subprocess.run([*CHECKER, driver], input=asked, stdout=subprocess.PIPE, stderr=subprocess.PIPE, check=False)
-    want = b"".join(form.wanted(case).reply for case in some)
+    replies = parted(ended.stdout, some, form)
+    right = replies is not None and all(map(form.right, some, replies))
     sys.stdout.write(ended.stderr.decode(errors="replace"))
-    replies = "as they should be" if ended.stdout == want else "not as they should be"
-    print(f"{len(some)} cases under valgrind: status {ended.returncode}, replies {replies}")
-    return ended.returncode == 0 and not ended.stderr and ended.stdout == want
+    words = "as they should be" if right else "not as they should be"
+    print(f"{len(some)} cases under valgrind: status {ended.returncode}, replies {words}")
+    return ended.returncode == 0 and not ended.stderr and right
 
 
 def main(driver):
     rng = random.Random(3)
     runs = list(islice(cases.all_cases(), 0, None, EVERY)) + [random_case(rng) for _ in range(RANDOM)]
     packing = list(islice(packing_cases.all_cases(), 0, None, EVERY)) + [random_packing(rng) for _ in range(RANDOM_PACKING)]
-    good = [survived(driver, frames, runs), survived(driver, packing_frames, packing)]
+    doubles = list(islice(doubles_cases.all_cases(), 0, None, EVERY)) + [random_case(rng, ("ball",)) for _ in range(RANDOM_DOUBLES)]
+    good = [survived(driver, *some) for some in ((frames, runs), (packing_frames, packing), (doubles_frames, doubles))]
     print(f"{good.count(True)} passed, {good.count(False)} failed")
     return 0 if all(good) else 1
 

@@ -1,6 +1,7 @@
-/* A first program with margins.h: one formula checked, run on readings, admitted for a whole domain, packed and read back; then a weight that
- * was rounded, and a quotient. At scale 4 a unit is 1/16. The formula is x*y + x. */
+/* A first program with margins.h: one formula checked, run on readings, its figures given as doubles, admitted for a whole domain, packed and
+ * read back; then a weight that was rounded, and a quotient. At scale 4 a unit is 1/16. The formula is x*y + x. */
 #include <inttypes.h>
+#include <stdbool.h>
 #include <stdio.h>
 #include <string.h>
 
@@ -15,6 +16,7 @@ static const uint8_t formula[] = {0x02, 0x41, 0x00, 0x41, 0x80, 0x00, 0x02, 0x80
 static int64_t work[MARGINS_MOST_VALUES], output[MARGINS_MOST_OUTPUTS];
 static uint64_t work_strays[MARGINS_MOST_VALUES], output_strays[MARGINS_MOST_OUTPUTS];
 static uint64_t work_margins[MARGINS_MOST_VALUES], output_margins[MARGINS_MOST_OUTPUTS];
+static double chart_centres[MARGINS_MOST_OUTPUTS], chart_margins[MARGINS_MOST_OUTPUTS];
 
 static void tell_refusal(const char *job, margins_reply reply)
 {
@@ -80,6 +82,65 @@ static void ball_of_two_lists(const int64_t centres[2], const int64_t margins[2]
         tell_refusal("ball of two lists", reply);
     else
         printf("ball of two lists: %" PRId64 " give or take %" PRIu64 "\n", output[0], output_margins[0]);
+}
+
+/* Whether the bits of the double, read as sign, significand and power of two, mean units/2^scale; a zero is plus zero. */
+static bool is_exactly(double number, int64_t units, int scale)
+{
+    uint64_t bits, size = units < 0 ? -(uint64_t)units : (uint64_t)units;
+    memcpy(&bits, &number, sizeof bits);
+    if (units == 0)
+        return bits == 0;
+    uint64_t sign = bits >> 63, significand = UINT64_C(1) << 52 | (bits & ((UINT64_C(1) << 52) - 1));
+    /* The number is significand/2^down: units have less than 53 bits, so that down is at least scale. */
+    int down = 1075 - (int)(bits >> 52 & 2047), shift = down - scale;
+    if (shift < 0 || shift > 52 || sign != (units < 0))
+        return false;
+    return significand >> shift == size && (significand & ((UINT64_C(1) << shift) - 1)) == 0;
+}
+
+/* After a refusal the lists of doubles hold what they held, here 0.1. */
+static void chart(const int64_t centres[2], const int64_t margins[2], size_t length)
+{
+    chart_centres[0] = chart_margins[0] = 0.1;
+    margins_reply reply = margins_ball_doubles(formula, sizeof formula, centres, 2, margins, 2, work, MARGINS_MOST_VALUES,
+                                               work_margins, MARGINS_MOST_VALUES, chart_centres, MARGINS_MOST_OUTPUTS,
+                                               chart_margins, length);
+    if (reply.refusal)
+        tell_refusal("chart", reply);
+    printf("chart: %g give or take %g\n", chart_centres[0], chart_margins[0]);
+}
+
+/* How many of the figures of one reading are not exactly what margins_ball gives in units. */
+static int inexact(const uint8_t *bytes, size_t length, int scale, int64_t centre, int64_t margin)
+{
+    margins_reply units = margins_ball(bytes, length, &centre, 1, &margin, 1, work, MARGINS_MOST_VALUES, work_margins, MARGINS_MOST_VALUES,
+                                       output, MARGINS_MOST_OUTPUTS, output_margins, MARGINS_MOST_OUTPUTS);
+    margins_reply drawn = margins_ball_doubles(bytes, length, &centre, 1, &margin, 1, work, MARGINS_MOST_VALUES,
+                                               work_margins, MARGINS_MOST_VALUES, chart_centres, MARGINS_MOST_OUTPUTS,
+                                               chart_margins, MARGINS_MOST_OUTPUTS);
+    if (units.refusal || drawn.refusal || units.outputs != 2 || drawn.outputs != 2)
+        return 4;
+    int wrong = 0;
+    for (int i = 0; i < 2; i++)
+        wrong += !is_exactly(chart_centres[i], output[i], scale) + !is_exactly(chart_margins[i], (int64_t)output_margins[i], scale);
+    return wrong;
+}
+
+/* At each scale 0, M and the powers of two with their neighbours, as a reading, negated, and as a margin: the outputs are x and -x. */
+static void chart_each_scale(void)
+{
+    static const int64_t code = MARGINS_CODE_NEGATE, none = 0, outputs[] = {0, 1};
+    const int64_t most = 2147483647;
+    int figures = 0, wrong = 0;
+    for (int scale = 0; scale <= 30; scale++) {
+        uint8_t bytes[MARGINS_MOST_BYTES];
+        margins_packed made = margins_pack(scale, 1, &code, 1, &none, 1, &none, 1, outputs, 2, bytes, sizeof bytes);
+        for (int power = 0; power <= 31; power++)
+            for (int64_t size = (INT64_C(1) << power) - 1; size <= (INT64_C(1) << power) + 1 && size <= most; size++, figures += 8)
+                wrong += inexact(bytes, made.bytes, scale, size, most - size) + inexact(bytes, made.bytes, scale, size - most, size);
+    }
+    printf("chart: of %d figures %d are not exact\n", figures, wrong);
 }
 
 static void admit(const int64_t middles[2], const int64_t strays[2], const int64_t margins[2])
@@ -173,6 +234,10 @@ int main(void)
     ball((margins_reading){24, 3}, (margins_reading){-10, 2147483647});
     ball((margins_reading){1000000, 0}, (margins_reading){1000000, 0});
     ball_of_two_lists((const int64_t[]){24, -10}, (const int64_t[]){3, 2});
+    chart((const int64_t[]){24, -10}, (const int64_t[]){3, 2}, MARGINS_MOST_OUTPUTS);
+    chart((const int64_t[]){1000000, 1000000}, (const int64_t[]){0, 0}, MARGINS_MOST_OUTPUTS);
+    chart((const int64_t[]){24, -10}, (const int64_t[]){3, 2}, 0);
+    chart_each_scale();
     admit((const int64_t[]){24, -10}, (const int64_t[]){3, 2}, (const int64_t[]){1, 1});
     admit((const int64_t[]){24, -10}, (const int64_t[]){2147483000, 2}, (const int64_t[]){1, 1});
     admit((const int64_t[]){24, -10}, (const int64_t[]){3, -2}, (const int64_t[]){1, 1});

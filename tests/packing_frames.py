@@ -61,6 +61,10 @@ def wanted(case):
     return Wanted(refusal, struct.pack("<IIQ", refusal, len(data), 0) + INTACT + data + BUFFER_SENTINELS[len(data) : case.room])
 
 
+def right(case, reply):
+    return wanted(case).reply == reply
+
+
 def bytes_in(reply):
     """The formula that a reply of packing holds."""
     return reply[HEAD : HEAD + struct.unpack_from("<I", reply, 4)[0]]

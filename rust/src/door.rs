@@ -1,6 +1,6 @@
 //! The C functions of `include/margins.h`, each called once. A slice is what they ask of a list: memory that is there, aligned and,
 //! where it is written, disjoint from every other.
-use crate::{Formula, LentBalls, LentInstructions, LentMatryoshki, Reading, Refusal, Refused};
+use crate::{Formula, LentBalls, LentDoubles, LentInstructions, LentMatryoshki, Reading, Refusal, Refused};
 
 #[repr(C)]
 struct Reply {
@@ -51,6 +51,15 @@ extern "C" {
         work_margins: *mut u64, work_margins_length: usize,
         output_centres: *mut i64, output_centres_length: usize,
         output_margins: *mut u64, output_margins_length: usize,
+    ) -> Reply;
+    fn margins_ball_doubles(
+        formula: *const u8, formula_length: usize,
+        centres: *const i64, centres_length: usize,
+        margins: *const i64, margins_length: usize,
+        work_centres: *mut i64, work_centres_length: usize,
+        work_margins: *mut u64, work_margins_length: usize,
+        output_centres: *mut f64, output_centres_length: usize,
+        output_margins: *mut f64, output_margins_length: usize,
     ) -> Reply;
     fn margins_admit(
         formula: *const u8, formula_length: usize,
@@ -162,6 +171,29 @@ pub fn ball_records(formula: &[u8], readings: &[Reading], work: LentBalls<'_>, o
             formula.len(),
             readings.as_ptr(),
             readings.len(),
+            work.centres.as_mut_ptr(),
+            work.centres.len(),
+            work.margins.as_mut_ptr(),
+            work.margins.len(),
+            output.centres.as_mut_ptr(),
+            output.centres.len(),
+            output.margins.as_mut_ptr(),
+            output.margins.len(),
+        )
+    })
+}
+
+pub fn ball_doubles(
+    formula: &[u8], centres: &[i64], margins: &[i64], work: LentBalls<'_>, output: LentDoubles<'_>,
+) -> Result<usize, Refused> {
+    told(unsafe {
+        margins_ball_doubles(
+            formula.as_ptr(),
+            formula.len(),
+            centres.as_ptr(),
+            centres.len(),
+            margins.as_ptr(),
+            margins.len(),
             work.centres.as_mut_ptr(),
             work.centres.len(),
             work.margins.as_mut_ptr(),

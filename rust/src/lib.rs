@@ -1,15 +1,15 @@
 //! Packed formulas run on readings, each figure with an honest margin.
 //!
 //! A formula is a string of bytes. [`check`] says whether bytes are one; [`plain`] runs it on bare readings, [`ball`] on readings with a
-//! margin each, [`admit`] once on a whole domain. [`pack`] makes the bytes of lists of instructions and outputs, [`unpack`] the lists of
-//! bytes. Every function may be called with any bytes, any numbers and lists of any length: it answers or refuses, and a refusal writes no
-//! output. [`Refused`] says why and, where it is about one of them, which reading or instruction. Readings, constants and results are whole
-//! counts of one unit, 2^-F, where F is the formula's scale.
+//! margin each, [`ball_doubles`] as [`ball`] with its figures as doubles, [`admit`] once on a whole domain. [`pack`] makes the bytes of lists
+//! of instructions and outputs, [`unpack`] the lists of bytes. Every function may be called with any bytes, any numbers and lists of any
+//! length: it answers or refuses, and a refusal writes no output. [`Refused`] says why and, where it is about one of them, which reading or
+//! instruction. Readings, constants and results, but for those doubles, are whole counts of one unit, 2^-F, where F is the formula's scale.
 //!
 //! The caller lends the memory: a work list needs a place for each value, an output list one for each output. [`Balls`] and [`Matryoshki`]
-//! have room for every formula; [`check`] tells what one formula needs. After an answer the work list holds all values. After
-//! [`Refusal::OutOfReach`] and [`Refusal::MayBeZero`] it holds those before the refused instruction. Later places, and with the other
-//! refusals all, keep what they held.
+//! have room for every formula, [`Doubles`] for the outputs of every formula; [`check`] tells what one formula needs. After an answer the
+//! work list holds all values. After [`Refusal::OutOfReach`] and [`Refusal::MayBeZero`] it holds those before the refused instruction. Later
+//! places, and with the other refusals all, keep what they held.
 //!
 //! ```
 //! // Scale 4: value 2 is value 0 times value 1, value 3 is value 2 plus value 0, output 3.
@@ -30,7 +30,7 @@ mod door;
 mod lists;
 mod refusal;
 
-pub use lists::{Balls, Instructions, LentBalls, LentInstructions, LentMatryoshki, Matryoshki, Reading};
+pub use lists::{Balls, Doubles, Instructions, LentBalls, LentDoubles, LentInstructions, LentMatryoshki, Matryoshki, Reading};
 pub use refusal::{Refusal, Refused};
 
 /// Inputs that a formula has at most.
@@ -105,6 +105,24 @@ pub fn ball(formula: &[u8], centres: &[i64], margins: &[i64], work: LentBalls<'_
 /// As [`ball`], the readings as records.
 pub fn ball_records(formula: &[u8], readings: &[Reading], work: LentBalls<'_>, output: LentBalls<'_>) -> Result<usize, Refused> {
     door::ball_records(formula, readings, work, output)
+}
+
+/// As [`ball`], each output's centre and margin as doubles, for a page that draws with them: the doubles are centre/2^F and margin/2^F
+/// exactly, nothing is rounded, and a zero is plus zero. Readings and the work list are whole counts of units, as there. Later places of the
+/// output lists, and with a refusal all, keep the bits that they held.
+///
+/// ```
+/// # let formula = [0x02, 0x41, 0x00, 0x41, 0x80, 0x00, 0x02, 0x80, 0x20, 0x00, 0x03];
+/// let (mut work, mut output) = (margins::Balls::default(), margins::Doubles::default());
+/// let count = margins::ball_doubles(&formula, &[24, -10], &[3, 2], work.lent(), output.lent())?;
+/// // At scale 4 a unit is 1/16: 9 units give or take 9.
+/// assert_eq!((count, output.centres[0], output.margins[0]), (1, 0.5625, 0.5625));
+/// # Ok::<(), margins::Refused>(())
+/// ```
+pub fn ball_doubles(
+    formula: &[u8], centres: &[i64], margins: &[i64], work: LentBalls<'_>, output: LentDoubles<'_>,
+) -> Result<usize, Refused> {
+    door::ball_doubles(formula, centres, margins, work, output)
 }
 
 /// A domain, once: a middle, a stray and a margin for each reading; for each output the middle, the stray of its computed centre and the

@@ -1,5 +1,5 @@
 //! The lists that a caller lends, and readings as records.
-use crate::{MOST_INSTRUCTIONS, MOST_VALUES};
+use crate::{MOST_INSTRUCTIONS, MOST_OUTPUTS, MOST_VALUES};
 
 /// One reading with its margin, for [`ball_records`](crate::ball_records).
 #[repr(C)]
@@ -24,6 +24,22 @@ impl LentBalls<'_> {
     /// The same lists, lent on for one run.
     pub fn lent(&mut self) -> LentBalls<'_> {
         LentBalls { centres: self.centres, margins: self.margins }
+    }
+}
+
+/// Lent lists for the figures of [`ball_doubles`](crate::ball_doubles): centres and margins as doubles.
+#[derive(Debug, PartialEq)]
+pub struct LentDoubles<'a> {
+    /// A place for each centre.
+    pub centres: &'a mut [f64],
+    /// A place for each margin.
+    pub margins: &'a mut [f64],
+}
+
+impl LentDoubles<'_> {
+    /// The same lists, lent on for one run.
+    pub fn lent(&mut self) -> LentDoubles<'_> {
+        LentDoubles { centres: self.centres, margins: self.margins }
     }
 }
 
@@ -83,6 +99,22 @@ impl Balls {
     /// All of it, lent.
     pub fn lent(&mut self) -> LentBalls<'_> {
         LentBalls { centres: &mut self.centres, margins: &mut self.margins }
+    }
+}
+
+/// Room for the figures of every formula as doubles.
+#[derive(Clone, Debug, Default, PartialEq)]
+pub struct Doubles {
+    /// The centres.
+    pub centres: [f64; MOST_OUTPUTS],
+    /// The margins.
+    pub margins: [f64; MOST_OUTPUTS],
+}
+
+impl Doubles {
+    /// All of it, lent.
+    pub fn lent(&mut self) -> LentDoubles<'_> {
+        LentDoubles { centres: &mut self.centres, margins: &mut self.margins }
     }
 }
 

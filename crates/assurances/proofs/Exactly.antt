@@ -1,5 +1,5 @@
 -- A done job leaves lists that hold its values and outputs and nothing else as they are. Assumes nothing.
-use mathlib.Core.Path.{_≡_, refl, sym, _∙_, ap, ap₂}
+use mathlib.Core.Path.{_≡_, refl, sym, _∙_, ap, ap₂, subst}
 use mathlib.Core.List.{List}
 use Prim.Native.Nat.{ℕ}
 use native.Mathlib.Nat.{le-refl}
@@ -9,15 +9,21 @@ use lib.Seq.{take-all}
 use Rattle.lists.specs.Over.{over, least}
 use Rattle.lists.proofs.Over.{over-start}
 use Rattle.refusals.specs.declared.Reply.the-variants.{Done}
+use Rattle.lists.specs.Joined.{Rel}
+use Rattle.rules.specs.declared.Ball.{Ball}
+use Rattle.rules.specs.Values.{Contains}
 use Rattle.rules.specs.Lists.{centres-of, margins-of, middles-of, strays-of, static-margins-of}
+use Rattle.formulas.specs.Readings.{BallReadings}
 use Rattle.formulas.specs.Kinds.{Kind, ball-kind, matryoshka-kind}
 use Rattle.formulas.specs.Job.{job, done, lent, Kept}
-use Rattle.formulas.proofs.Lawful.{Lawful}
+use Rattle.formulas.proofs.Lawful.{Lawful, ball-lawful}
 use Rattle.formulas.proofs.Jobs.{Starts, starts-done, made-many, does, kept-as}
 use Rattle.packed.specs.Meaning.{formula}
 use Rattle.packed.proofs.WellFormed.{accepted-well-formed}
 use Rattle.telling.proofs.Told.{least-same, least-thrice}
-use Rattle.assurances.specs.Printed.{lists-of-balls, lists-of-matryoshki}
+use Rattle.demands.specs.Demands.{exact-outputs}
+use Rattle.demands.proofs.Demand2.{demand-2}
+use Rattle.assurances.specs.Printed.{Encloses, lists-of-balls, lists-of-matryoshki}
 
 -- lists that hold the values and nothing else
 pub record Exactly (K : Kind) (lists : List (K .Value) → K .Lists) : Type 0 where
@@ -62,3 +68,17 @@ exact-kept {K} {lists} law x bytes given work output {vs} {os} e =
     kept-as law (Done (length os))
     (starts-done K (formula bytes) given (K .room (lists vs)) (K .room (lists os)) p (d .finishes) ∙ ap (done vs) (sym (d .picks)))
     refl (x .holds-itself vs) (x .holds-itself os)
+
+-- demand 2 of the outputs of any ball job that is done
+pub done-encloses : (bytes : List ℕ) (given : BallReadings) (work output : ℕ) {vs bs : List Ball} → job ball-kind (formula bytes) given work output ≡ done vs bs
+    → Encloses bytes given bs
+done-encloses bytes given work output {vs} {bs} e =
+    let h = demand-2 (exact-kept ball-lawful exact-balls bytes given work output e) in
+    record {
+      meant = h .meant;
+      means = h .means;
+      as-many = h .as-many;
+      inside = λ xs ys c x.
+          subst (λ (l : List Ball). Rel (Contains (h .meant .header .scale)) l (exact-outputs (h .meant) ys))
+          (ball-lawful .front-holds bs (length bs) (lists-of-balls bs) (lists-of-balls bs) refl (exact-balls .holds-itself bs)) (h .outputs-inside xs ys c x);
+    }

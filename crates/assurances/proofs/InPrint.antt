@@ -1,24 +1,20 @@
 -- The demands 2 and 3 in print: the numbers on the program's lines are those of the demands. Assumes nothing.
-use mathlib.Core.Path.{_≡_, refl, sym, _∙_, subst}
+use mathlib.Core.Path.{_≡_, sym, _∙_, subst}
 use mathlib.Core.List.{List}
 use Prim.Native.Nat.{ℕ}
 use lib.IntN.{ℤ}
 use lib.ListN.{length}
-use Rattle.lists.specs.Joined.{Rel}
 use Rattle.rules.specs.declared.Ball.{Ball}
 use Rattle.rules.specs.declared.Matryoshka.{Matryoshka}
-use Rattle.rules.specs.Values.{Contains}
 use Rattle.formulas.proofs.Lawful.{plain-lawful, ball-lawful, matryoshka-lawful}
 use Rattle.parsing.specs.Word.{Job, plain, ball, admit}
 use Rattle.rows.specs.Rows.{column}
 use Rattle.listing.specs.OutputLines.{ball-fields, matryoshka-fields, listed}
 use Rattle.listing.proofs.OneListing.{plain-line, ball-line, matryoshka-line, plain-not-ball, plain-not-matryoshka, ball-not-matryoshka}
 use Rattle.telling.specs.Program.{program-text, most-values, most-outputs}
-use Rattle.demands.specs.Demands.{exact-outputs}
-use Rattle.demands.proofs.Demand2.{demand-2}
 use Rattle.demands.proofs.Demand3.{demand-3}
-use Rattle.assurances.specs.Printed.{Asks, AsksFor, readings-on, domain-on, printed, Encloses, RefusedOr, lists-of-balls, lists-of-matryoshki, AdmittedAs}
-use Rattle.assurances.proofs.Exactly.{exact-balls, exact-matryoshki, exact-kept}
+use Rattle.assurances.specs.Printed.{Asks, AsksFor, readings-on, domain-on, printed, Encloses, RefusedOr, lists-of-matryoshki, AdmittedAs}
+use Rattle.assurances.proofs.Exactly.{exact-matryoshki, exact-kept, done-encloses}
 use Rattle.assurances.proofs.ReadBack.{asks-text, printed-done, kind-prints, kind-unlike, told-asks}
 
 -- "when `margins` prints `y0 c r`, every exact result lies within r of c"
@@ -26,15 +22,7 @@ pub printed-encloses : {s bytes : List ℕ} {rows : List (List ℤ)} → Asks s 
     → Encloses bytes (readings-on rows) bs
 printed-encloses {s} {bytes} {rows} q bs e =
     let d = printed-done ball-lawful bytes (readings-on rows) ball-line bs (sym (asks-text q) ∙ e) in
-    let h = demand-2 (exact-kept ball-lawful exact-balls bytes (readings-on rows) most-values most-outputs (d .1)) in
-    record {
-      meant = h .meant;
-      means = h .means;
-      as-many = h .as-many;
-      inside = λ xs ys c x.
-          subst (λ (l : List Ball). Rel (Contains (h .meant .header .scale)) l (exact-outputs (h .meant) ys))
-          (ball-lawful .front-holds bs (length bs) (lists-of-balls bs) (lists-of-balls bs) refl (exact-balls .holds-itself bs)) (h .outputs-inside xs ys c x);
-    }
+    done-encloses bytes (readings-on rows) most-values most-outputs (d .1)
 
 -- "when it prints `y0 C R r` for a domain, demand 3 holds with those numbers"
 pub printed-admits : {s bytes : List ℕ} {rows : List (List ℤ)} → Asks s admit bytes rows → (ms : List Matryoshka)

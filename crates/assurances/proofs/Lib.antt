@@ -3,3 +3,4 @@ pub mod AtDoors
 pub mod Exactly
 pub mod ReadBack
 pub mod InPrint
+pub mod OnChart

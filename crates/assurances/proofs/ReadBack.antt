@@ -1,5 +1,5 @@
 -- From what is printed back to the job: an input of the program's form, and outputs that are printed are the job's. Assumes nothing.
-use mathlib.Core.Path.{_≡_, refl, sym, _∙_, ap, ap₂, subst}
+use mathlib.Core.Path.{_≡_, refl, sym, _∙_, ap, ap₂}
 use mathlib.Core.Bool.{Bool, true, false, cond}
 use mathlib.Core.List.{List, [], _∷_, _++_}
 use mathlib.Core.Option.{Option, none, some}
@@ -10,12 +10,11 @@ use lib.Dec.{leb}
 use lib.IntN.{ℤ}
 use lib.ListN.{length, getD, length-map}
 use Rattle.lists.specs.All.{All}
-use Rattle.lists.proofs.Each.{all-picked}
 use Rattle.formulas.specs.Kinds.{Kind}
 use Rattle.formulas.specs.Job.{job, Result, refused-first, stopped-at, done}
-use Rattle.formulas.proofs.Walks.{run-keeps}
 use Rattle.formulas.proofs.Lawful.{Lawful}
-use Rattle.formulas.proofs.Jobs.{made-many, Does, does}
+use Rattle.formulas.proofs.Jobs.{does}
+use Rattle.formulas.proofs.Legal.{outputs-legal}
 use Rattle.packed.specs.Meaning.{formula}
 use Rattle.packed.proofs.WellFormed.{accepted-well-formed}
 use Rattle.parsing.specs.Word.{Job, job-named, numbers-on-a-line}
@@ -46,16 +45,6 @@ not-ok : (m k n : ℕ) (rest : List ℕ) → refused-text m k ≡ ok-text n ++ r
 not-ok m k n rest e = let z : _≡_ {A = ℕ} 114 111 = cc in omega arith
 
 module _ {K : Kind} (law : Lawful K) (bytes : List ℕ) (given : K .Readings) where
-  outputs-legal : (work output : ℕ) {vs os : List (K .Value)} → Does K (formula bytes) given work output vs os → All (K .Legal) os
-  outputs-legal work output d =
-      let f = d .on .formula in
-      let well = accepted-well-formed bytes (d .started .means) in
-      subst (All (K .Legal)) (sym (d .picks))
-      (all-picked (K .nothing)
-      (run-keeps (K .rule (f .header .scale)) (K .nothing) (λ o v. law .rule-legal (f .header .scale) o) (f .program) (d .on .values)
-      (law .tested-values (f .header .inputs) given (d .started .fits) .legal) (d .finishes))
-      (well .results-below) (omega (arith, made-many law (formula bytes) given work output (d .started) well (d .finishes))))
-
   module _ {fields : K .Value → List ℕ} where
     -- a job that is told with these values is done with these outputs
     pub printed-done : OneLine (K .Legal) fields → (os : List (K .Value)) → kind-text K fields bytes given ≡ printed fields os
@@ -69,7 +58,8 @@ module _ {K : Kind} (law : Lawful K) (bytes : List ℕ) (given : K .Readings) wh
         by-job (stopped-at k n vs) u e = absurd (not-ok n k (length os) (listed fields 0 os) e)
         by-job (done vs ws) u e =
             let h = line-one (listed fields 0 ws) (listed fields 0 os) (ok-above (length ws)) (ok-above (length os)) e in
-            let legal = outputs-legal most-values most-outputs (does K (formula bytes) given most-values most-outputs u) in
+            let d = does K (formula bytes) given most-values most-outputs u in
+            let legal = outputs-legal law (formula bytes) given most-values most-outputs d (accepted-well-formed bytes (d .started .means)) in
             (vs, u ∙ ap (done vs) (sym (listed-one o 0 os ws legal (sym (h .1)))))
 
     -- a job is told as a refusal, or with outputs

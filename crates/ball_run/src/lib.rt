@@ -21,7 +21,7 @@ use running::tested;
 use walks::Walked;
 
 // The header of a formula that can be carried out on these readings in lists with so many places, or the refusal.
-fn ready(s: &[u8], centres: &[i64], margins: &[i64], work: usize, output: usize) -> Start
+pub fn ready(s: &[u8], centres: &[i64], margins: &[i64], work: usize, output: usize) -> Start
     ensures { λ r. ⌜ Ready ball-kind (now (s .entry)) (ball-readings (now (centres .entry)) (now (margins .entry)))
         work output r ⌝ }
 {
@@ -66,7 +66,7 @@ fn finish(
 }
 
 // The formula on balls that fit, in memory that is enough.
-fn carry_out(
+pub fn carry_out(
     s: &[u8],
     h: Header,
     centres: &[i64],

@@ -7,5 +7,6 @@ pub mod Judging
 pub mod Fitting
 pub mod Lawful
 pub mod Jobs
+pub mod Legal
 pub mod GivenInRuns
 pub mod ReadingFigures

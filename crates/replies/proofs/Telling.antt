@@ -29,7 +29,7 @@ use Rattle.replies.specs.declared.MarginsReply.{MarginsReply}
 use Rattle.replies.specs.declared.MarginsFormula.{MarginsFormula}
 use Rattle.replies.specs.Doors.{margins-reply, margins-formula, outputs-told, CheckedInLimits, Door}
 
-job-few : (K : Kind) (s : List ℕ) (given : K .Readings) (work output : ℕ) → outputs-told (said (job K (formula s) given work output)) ≤ 16
+pub job-few : (K : Kind) (s : List ℕ) (given : K .Readings) (work output : ℕ) → outputs-told (said (job K (formula s) given work output)) ≤ 16
 job-few K s given work output = by-start (start K (formula s) given work output) refl
   where
     by-walk : (f : Formula) → length (f .results) ≤ 16 → (w : Walk (K .Value)) → outputs-told (said (walk-ended (K .nothing) f w)) ≤ 16

@@ -38,7 +38,7 @@ fn part(scale: u32, halvings: u32, less: u64) -> u64
 }
 
 // Q.
-fn unit(scale: u32) -> u64
+pub fn unit(scale: u32) -> u64
     requires { ⌜ scale ≤ top-scale ⌝ }
     ensures { λ r. ⌜ r ≡ Q scale ⌝ }
 {

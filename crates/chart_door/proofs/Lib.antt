@@ -1,0 +1,2 @@
+-- The laws of the door to the chart.
+pub mod ChartTelling

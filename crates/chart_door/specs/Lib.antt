@@ -1,0 +1,2 @@
+-- What C sees of the ball job with doubles.
+pub mod ChartDoors

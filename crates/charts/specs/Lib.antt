@@ -1,0 +1,2 @@
+-- Request f: the ball job with its outputs as doubles.
+pub mod Charts

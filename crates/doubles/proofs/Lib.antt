@@ -1,0 +1,2 @@
+-- That the doubles are exact.
+pub mod Exact
