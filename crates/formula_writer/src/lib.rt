@@ -79,10 +79,10 @@ fn put_instruction(code: i64, first: i64, second: i64, w: Writer, out: &mut [u8]
         let coded = w.put(out, 3, 0);
         return coded.put(out, 32, word(first));
     }
-    if 5 <= c {
-        if c == 5 {
-            return put_coefficient(first, second, w, out);
-        }
+    if c == 5 {
+        return put_coefficient(first, second, w, out);
+    }
+    if c == 6 {
         return w.put(out, 13, 0x1800 + natural(first));
     }
     let a = natural(first);

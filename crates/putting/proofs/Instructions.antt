@@ -184,17 +184,17 @@ module _ (c a b : ℤ) {w : Writer} {out : List ℕ} (p : InstructionPuttable (r
           → PutsInstruction (raw c a b) w out new r
       coefficient-done {new} {r} q = subst (λ x. PutsInstruction x w out new r) (sym same) q
 
-    -- a reciprocal: the code's only other number from 5 on
-    module _ (beyond : 5 ≤ n) (bare : n ≡ 5 → ⊥) where
+    -- a reciprocal
+    module _ (sixth : n ≡ 6) where
       six : c ≡ pos 6
-      six = by-code named (omega (arith, as-kept fc number)) (λ e. bare (as-kept fc number ∙ e))
+      six = by-code named (sym (as-kept fc number) ∙ sixth)
         where
-          by-code : {c : ℤ} → Code c → 5 ≤ encoded c → (encoded c ≡ 5 → ⊥) → c ≡ pos 6
-          by-code none-named l e = absurd (omega arith)
-          by-code one-named l e = absurd (omega arith)
-          by-code (two-named i k) l e = absurd (omega arith)
-          by-code with-margin l e = absurd (e refl)
-          by-code divided l e = refl
+          by-code : {c : ℤ} → Code c → encoded c ≡ 6 → c ≡ pos 6
+          by-code none-named e = absurd (omega arith)
+          by-code one-named e = absurd (omega arith)
+          by-code (two-named i k) e = absurd (omega arith)
+          by-code with-margin e = absurd (omega arith)
+          by-code divided e = refl
 
       divisor-passed : AllFit (instruction-slots F v (raw (pos 6) a b))
       divisor-passed = subst (λ (z : ℤ). AllFit (instruction-slots F v (raw z a b))) six passed
@@ -234,9 +234,16 @@ module _ (c a b : ℤ) {w : Writer} {out : List ℕ} (p : InstructionPuttable (r
                   divisor-room q;
             })
 
-    module _ (some : n ≡ 0 → ⊥) (bare : n < 5) where
+    module _ (some : n ≡ 0 → ⊥) (bare : n ≡ 5 → ⊥) (undivided : n ≡ 6 → ⊥) where
       below-five : encoded c < 5
-      below-five = omega (arith, as-kept fc number)
+      below-five = by-code named (λ e. bare (as-kept fc number ∙ e)) (λ e. undivided (as-kept fc number ∙ e))
+        where
+          by-code : {c : ℤ} → Code c → (encoded c ≡ 5 → ⊥) → (encoded c ≡ 6 → ⊥) → encoded c < 5
+          by-code none-named e f = omega arith
+          by-code one-named e f = omega arith
+          by-code (two-named l k) e f = k
+          by-code with-margin e f = absurd (e refl)
+          by-code divided e f = absurd (f refl)
 
       not-zero : encoded c ≡ 0 → ⊥
       not-zero e = some (as-kept fc number ∙ e)
