@@ -75,7 +75,7 @@ REFUSED = (
 )
 
 # 0.1 at scale 4 is 1.6 units: as a coefficient 2 give or take 1. A reading of 160 units, times it, and what that gives: the exact
-# product is 16, which 20 give or take 0 would not hold. 160 units are 10 whole ones: where they do not stray, no half unit goes on the margin.
+# product is 16, which 20 give or take 0 would not hold. 160 units are 10 times Q: where they do not stray, h is left out.
 WEIGHT = reader.pack(4, 1, [(5, 2, 1), (4, 0, 1)], [2, 1])
 WEIGHED = (
     ((160,), ((20,), (2,))),
