@@ -225,6 +225,7 @@ margins_reply baseline_admit(const uint8_t *bytes, size_t length,
         work_margins[i] = (uint64_t)margins[i];
     }
     uint64_t half = f.scale ? UINT64_C(1) << (f.scale - 1) : 0;
+    uint64_t below_unit = (UINT64_C(1) << f.scale) - 1;
     uint64_t t = UINT64_C(1) << 2 * f.scale;
     for (size_t k = 0; k < f.instructions; k++) {
         const instruction *at = &f.program[k];
@@ -256,9 +257,11 @@ margins_reply baseline_admit(const uint8_t *bytes, size_t length,
             uint64_t strays_a = work_strays[at->left], strays_b = work_strays[at->right];
             uint64_t r = work_margins[at->left], s = work_margins[at->right];
             uint64_t around_a = size(a) + strays_a, around_b = size(b) + strays_b;
+            /* 0 for a factor that does not stray and is a multiple of Q: no product that it covers is rounded. */
+            uint64_t rest_a = ((uint64_t)a & below_unit) | strays_a, rest_b = ((uint64_t)b & below_unit) | strays_b;
             middle = (a * b + (int64_t)half) >> f.scale;
             stray = up(around_a * strays_b + size(b) * strays_a, f.scale);
-            margin = up((around_a + r) * s + around_b * r + half, f.scale);
+            margin = up((around_a + r) * s + around_b * r + (rest_a && rest_b ? half : 0), f.scale);
             break;
         }
         default:

@@ -1,5 +1,5 @@
-"""The cases that compare.py runs: the documents' figures, small products, reciprocals at each scale, each limit, random ones, some of them
-spoilt, and each place of a refusal."""
+"""The cases that compare.py runs: the documents' figures, small products, reciprocals and whole factors at each scale, each limit, random
+ones, some of them spoilt, and each place of a refusal."""
 
 import random
 from itertools import product
@@ -15,6 +15,7 @@ from figures import figures
 from formulas import CODES, large_run, small_run
 from frames import JOBS, PARTS, Case
 from places import all_places
+from wholes import admissions
 
 RANDOM_RUNS = 66000
 LARGE_EVERY = 50
@@ -177,6 +178,7 @@ def of_every_kind(rng):
     yield from (Case("check", data) for data in all_checks())
     yield from random_cases(rng)
     yield from remainders(rng)
+    yield from (case_of(rng, *run) for run in admissions())
 
 
 def all_cases(seed=1):

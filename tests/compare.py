@@ -13,6 +13,7 @@ import demands
 import driver
 import frames
 import met
+import met_wholes
 import reader
 from evaluator import formula
 from figures import figures
@@ -23,8 +24,7 @@ SHARE_OF_ADMISSIONS = 0.5
 LEAST_SHARE_MULTIPLIED = 0.4
 LEAST_SHARE_DOUBTFUL = 0.2
 LEAST_SHARE_DIVIDED = 0.1
-TRIED_DIVIDING = ("demand 2 towards 0", "demand 3 with a reciprocal")
-LEAST_TRIED_DIVIDING = 2000
+LEAST_TRIED = {"demand 2 towards 0": 2000, "demand 3 with a reciprocal": 2000, "demand 3 with a whole factor": 2000}
 LONGEST = 4248
 LONGEST_EXACT = 2264
 LONGEST_DIVIDED = 856
@@ -105,10 +105,12 @@ class Comparison:
     def demand_3(self, admission, plain, ball):
         balls = list(zip(*ball[0].readings))
         answers = answer(*plain), answer(*ball)
-        kept = demands.keeps(self.rng, admission[0].data, balls, answer(*admission)[1], *answers)
+        data, admitted = admission[0].data, answer(*admission)[1]
+        kept = demands.keeps(self.rng, data, balls, admitted, *answers)
         self.judge(kept, admission[0], "  demand 3 fails on the balls", f"    {balls}")
         self.tried["demand 3"] += 1
-        self.tried["demand 3 with a reciprocal"] += demands.divides(formula(admission[0].data)[1])
+        self.tried["demand 3 with a reciprocal"] += demands.divides(formula(data)[1])
+        self.tried["demand 3 with a whole factor"] += met_wholes.multiplies_whole(data, admitted)
 
     def sanity(self):
         """Whether the cases are what they are meant to be: each refusal in each job, at each of its places, and enough that is accepted."""
@@ -125,8 +127,8 @@ class Comparison:
         self.expect(self.multiplied > LEAST_SHARE_MULTIPLIED * runs, "too few cases are accepted and multiply")
         self.expect(self.doubtful > LEAST_SHARE_DOUBTFUL * runs, "too few cases are accepted and have a coefficient")
         self.expect(self.divided > LEAST_SHARE_DIVIDED * runs, "too few cases are accepted and divide")
-        fewest = min(self.tried[name] for name in TRIED_DIVIDING)
-        self.expect(fewest > LEAST_TRIED_DIVIDING, "too seldom a demand is tried on a formula that divides")
+        for name, least in LEAST_TRIED.items():
+            self.expect(self.tried[name] > least, f"too seldom tried: {name}")
 
     def expect(self, good, words):
         self.passed += good

@@ -1,5 +1,5 @@
-"""A second evaluator, written from document 01 and document 02's requests b, c, e and f: the three runs in exact integers and fractions, the
-ball's outputs as fractions, and exact arithmetic on fractions.
+"""A second evaluator, written from document 01 and document 02's requests b, c, e, f and g: the three runs in exact integers and fractions,
+the ball's outputs as fractions, and exact arithmetic on fractions.
 
 A value is a tuple: (x,) in a plain run, (centre, margin) in a ball run, (middle, stray, margin) in an admission.
 """
@@ -46,11 +46,24 @@ def ball_product(scale, left, right):
     return c, up(scale, (abs(a) + r) * s + abs(b) * r + abs(a * b - c * (1 << scale)))
 
 
-def matryoshka_product(scale, left, right):
+def is_whole(scale, factor):
+    """Whether every centre that a matryoshka covers is one and the same multiple of Q: times any other it needs no rounding."""
+    middle, stray, _ = factor
+    return stray == 0 and middle % (1 << scale) == 0
+
+
+def margin_product(left, right):
+    """What the margins of two matryoshki put into the product's, in units of 1/Q and without h."""
     (A, R, r), (B, S, s) = left, right
+    return (abs(A) + R + r) * s + (abs(B) + S) * r
+
+
+def matryoshka_product(scale, left, right):
+    (A, R, _), (B, S, _) = left, right
     half = (1 << scale) // 2 if scale else 0
+    rounding = 0 if is_whole(scale, left) or is_whole(scale, right) else half
     stray = up(scale, (abs(A) + R) * S + abs(B) * R)
-    return rounded(scale, A * B), stray, up(scale, (abs(A) + R + r) * s + (abs(B) + S) * r + half)
+    return rounded(scale, A * B), stray, up(scale, margin_product(left, right) + rounding)
 
 
 PRODUCTS = {1: plain_product, 2: ball_product, 3: matryoshka_product}

@@ -1,5 +1,5 @@
-"""Document 01's figures, marked and unmarked, its examples, and document 02's on coefficients, reciprocals and the place of a refusal:
-cases with what they must give."""
+"""Document 01's figures, marked and unmarked, its examples, and document 02's on coefficients, reciprocals, whole factors and the place of
+a refusal: cases with what they must give."""
 
 import reader
 import reciprocals
@@ -19,12 +19,35 @@ STEPS = (
     (0, "multiply", ((3, 1), (-5, 2)), (-15, 13)),
     (4, "multiply", ((24, 3, 1), (-10, 2, 1)), (-15, 6, 3)),
     (4, "multiply", ((1, 0, 0), (1, 0, 0)), (0, 0, 1)),
-    (4, "multiply", ((16, 0, 0), (5, 2, 0)), (5, 2, 1)),
+    (4, "multiply", ((16, 0, 0), (5, 2, 0)), (5, 2, 0)),
     (0, "add", ((2147483646, 1), (0, 0)), (2147483646, 1)),
     (0, "add", ((2147483646, 1), (0, 1)), 11),
     (4, "add", ((M,), (-1,)), (M - 1,)),
     (4, "add", ((M,), (1,)), 11),
     (4, "negate", ((M,),), (-M,)),
+)
+
+# Scale, two factors and their product. Where neither factor is whole, half a unit goes on the margin before it is rounded up.
+WHOLES = (
+    (4, ((16, 0, 0), (5, 2, 1)), (5, 2, 1)),
+    (4, ((5, 2, 1), (16, 0, 0)), (5, 2, 1)),
+    (4, ((48, 0, 0), (5, 2, 1)), (15, 6, 3)),
+    (4, ((5, 2, 1), (-32, 0, 0)), (-10, 4, 2)),
+    (4, ((0, 0, 0), (5, 2, 1)), (0, 0, 0)),
+    (4, ((16, 0, 0), (32, 0, 0)), (32, 0, 0)),
+    # A margin does not keep a factor from being whole: 7*1 and 7*2 are below one unit, and with a half more the second would be over it.
+    (4, ((16, 0, 1), (5, 2, 0)), (5, 2, 1)),
+    (4, ((16, 0, 2), (5, 2, 0)), (5, 2, 1)),
+    # A stray does, and so does a middle that is one off.
+    (4, ((16, 1, 0), (5, 2, 0)), (5, 3, 1)),
+    (4, ((5, 2, 0), (16, 1, 0)), (5, 3, 1)),
+    (4, ((17, 0, 0), (5, 2, 0)), (5, 3, 1)),
+    (4, ((5, 2, 0), (15, 0, 0)), (5, 2, 1)),
+    # 8*2 is a multiple of Q, and neither factor is.
+    (4, ((8, 0, 0), (2, 0, 0)), (1, 0, 1)),
+    (0, ((3, 0, 0), (5, 2, 1)), (15, 6, 3)),
+    (30, ((-1073741824, 0, 0), (5, 2, 0)), (-5, 2, 0)),
+    (30, ((1073741823, 0, 0), (5, 2, 0)), (5, 2, 1)),
 )
 
 # Readings for the example formula, and its only output.
@@ -52,7 +75,7 @@ REFUSED = (
 )
 
 # 0.1 at scale 4 is 1.6 units: as a coefficient 2 give or take 1. A reading of 160 units, times it, and what that gives: the exact
-# product is 16, which 20 give or take 0 would not hold.
+# product is 16, which 20 give or take 0 would not hold. 160 units are 10 times Q: where they do not stray, h is left out.
 WEIGHT = reader.pack(4, 1, [(5, 2, 1), (4, 0, 1)], [2, 1])
 WEIGHED = (
     ((160,), ((20,), (2,))),
@@ -60,19 +83,19 @@ WEIGHED = (
     ((1, 0), ((0, 1), (2, 1))),
     ((0, 0), ((0, 0), (2, 1))),
     ((-160, 16), ((-20, 13), (2, 1))),
-    ((160, 0, 0), ((20, 0, 11), (2, 0, 1))),
+    ((160, 0, 0), ((20, 0, 10), (2, 0, 1))),
     ((160, 3, 1), ((20, 1, 11), (2, 0, 1))),
 )
 
 # Minutes lost per probe sent at scale 16: value 2 is 1 divided by the probes, value 3 the minutes times it. Of 600 probes it is
-# 2^32/39321600 = 109.23, so (109, 1). 90 minutes, give or take 1, times it are 90*109 = 9810 units, give or take 91*1 + 1*109; the static
-# margin has a half more, rounded up. Two probes give or take two may be none.
+# 2^32/39321600 = 109.23, so (109, 1). 90 minutes, give or take 1, times it are 90*109 = 9810 units, give or take 91*1 + 1*109; so is
+# the static margin, the minutes being whole. Two probes give or take two may be none.
 QUOTIENT = reader.pack(16, 2, [(6, 1), (4, 0, 2)], [3, 2])
 PROBES = 600 << 16
 QUOTIENTS = (
     (((90 << 16,), (PROBES,)), (0, 0), ((9810,), (109,))),
     (((90 << 16, 1 << 16), (PROBES, 0)), (0, 0), ((9810, 200), (109, 1))),
-    (((90 << 16, 0, 1 << 16), (PROBES, 0, 0)), (0, 0), ((9810, 0, 201), (109, 0, 1))),
+    (((90 << 16, 0, 1 << 16), (PROBES, 0, 0)), (0, 0), ((9810, 0, 200), (109, 0, 1))),
     (((0,), (0,)), (17, 0), ()),
     (((90 << 16, 1 << 16), (2 << 16, 2 << 16)), (17, 0), ()),
     (((90 << 16, 0, 1 << 16), (2 << 16, 1 << 16, 1 << 16)), (17, 0), ()),
@@ -124,6 +147,8 @@ def figures():
         data = reader.pack(scale, len(operands), [(CODES.index(name), *range(len(operands)))], [len(operands)])
         case = exactly_enough(data, operands, len(operands) + 1, 1)
         yield (case, result, 0, []) if isinstance(result, int) else (case, 0, 0, [result])
+    for scale, factors, result in WHOLES:
+        yield exactly_enough(reader.pack(scale, 2, [(4, 0, 1)], [2]), factors, 3, 1), 0, 0, [result]
     for readings, output in EXAMPLES:
         yield exactly_enough(EXAMPLE, readings, 4, 1), 0, 0, [output]
     for readings, refusal in REFUSED:

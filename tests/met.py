@@ -1,9 +1,10 @@
 """What a case meets, in words, and what some case must meet: each refusal of each run, with each of its places and causes, and before
-what is tested later."""
+what is tested later; of reciprocals and of whole factors what their modules list."""
 
 from itertools import combinations
 
 import met_dividing
+import met_wholes
 from evaluator import M, formula, misread, run
 
 PARTS = {"plain": ("reading",), "ball": ("centre", "margin"), "records": ("centre", "margin"), "admit": ("middle", "stray", "margin")}
@@ -26,6 +27,8 @@ def met(case, want):
     elif number in STEPS:
         yield f"{job}: {number} at {want.place}"
     yield from (f"{job}: {words}" for words in of_dividing(case, want))
+    if job == "admit" and number in (0, *STEPS):
+        yield from (f"{job}: {words}" for words in met_wholes.of_run(case, want))
 
 
 def of_dividing(case, want):
@@ -96,6 +99,8 @@ def of_job(job, names):
     yield from (f"{number} at {k}" for number in STEPS for k in INSTRUCTIONS)
     yield from (f"{ROOM} before {number}" for number in STEPS)
     yield from met_dividing.required(names)
+    if job == "admit":
+        yield from met_wholes.required()
     for i in INPUTS:
         yield from (f"14 at {i} by {name}" for name in doubts)
         yield from (f"15 at {i} by {name}" for name in (*names, *(["the sum"] if doubts else [])))

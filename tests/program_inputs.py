@@ -9,7 +9,7 @@ from checks import longest, longest_divided, longest_exact
 from cuts import COEFFICIENTS, HEADERS, INPUTS, REFUSED
 from damage import wrong_readings
 from evaluator import M
-from figures import DIFFERENCE, DIFFERENCES, EXAMPLE, EXAMPLES, QUOTIENT, QUOTIENTS, WEIGHED, WEIGHT
+from figures import DIFFERENCE, DIFFERENCES, EXAMPLE, EXAMPLES, QUOTIENT, QUOTIENTS, WEIGHED, WEIGHT, WHOLES
 from formulas import large_run, small_run
 from met_dividing import OTHER_SCALES
 from places import IN_REACH, MAY_BE_ZERO, MOST_INPUTS, MOST_INSTRUCTIONS, good
@@ -102,6 +102,11 @@ def divided():
             yield "a cut formula with a reciprocal", text(data[:size], b"ball", [b"5898240 65536", b"39321600 0"])
 
 
+def whole_factors():
+    for scale, factors, _ in WHOLES:
+        yield f"factors {factors} at scale {scale}", of_values(reader.pack(scale, 2, [(4, 0, 1)], [2]), factors)
+
+
 def counts():
     """A wrong number of reading lines, up to what fits; and numbers of them at the limits."""
     for word in WORDS:
@@ -167,5 +172,5 @@ def divisions():
 def all_inputs(seed=1):
     yield from examples()
     yield from random_runs(random.Random(seed))
-    for some in (refused_formulas, coefficients, divided, counts, sizes, bad_readings, steps, divisions, malformed):
+    for some in (refused_formulas, coefficients, divided, whole_factors, counts, sizes, bad_readings, steps, divisions, malformed):
         yield from some()

@@ -6,7 +6,7 @@ ghost use Rattle.rules.specs.Values.{IsMatryoshka, matryoshka-reach};
 ghost use Rattle.rules.specs.Reciprocals.{top-reciprocal-scale};
 ghost use Rattle.rules.specs.Operation.{Operation};
 ghost use Rattle.rules.specs.Steps.{AtEveryScale, within-reach, matryoshka-answer};
-ghost use Rattle.rules.specs.Matryoshki.{matryoshka-rule};
+ghost use Rattle.rules.specs.Matryoshki.{is-whole, rounding-doubt, matryoshka-rule};
 use refusals::Refusal;
 use rules::Matryoshka;
 use rules::MatryoshkaStep;
@@ -68,6 +68,28 @@ pub fn subtract(x: Matryoshka, y: Matryoshka) -> MatryoshkaStep
     })
 }
 
+// Whether a factor has stray 0 and a middle that is a multiple of Q, in one test of a sum.
+fn is_whole(scale: u32, x: Matryoshka) -> bool
+    requires { ⌜ (scale ≤ top-scale) × IsMatryoshka x ⌝ }
+    ensures { λ r. ⌜ r ≡ is-whole scale x ⌝ }
+{
+    x.stray + rounding::over_units(scale, whole::magnitude(x.middle)) == 0
+}
+
+// What rounding a product may lose: nothing where a factor is whole.
+fn rounding_doubt(scale: u32, x: Matryoshka, y: Matryoshka) -> u64
+    requires { ⌜ (scale ≤ top-scale) × IsMatryoshka x × IsMatryoshka y ⌝ }
+    ensures { λ r. ⌜ (r ≡ rounding-doubt scale x y) × (r ≤ 2 ^ 30) ⌝ }
+{
+    if is_whole(scale, x) {
+        return 0;
+    }
+    if is_whole(scale, y) {
+        return 0;
+    }
+    rounding::half(scale)
+}
+
 pub fn multiply(scale: u32, x: Matryoshka, y: Matryoshka) -> MatryoshkaStep
     requires { ⌜ (scale ≤ top-scale) × IsMatryoshka x × IsMatryoshka y ⌝ }
     ensures { λ r. ⌜ matryoshka-answer r ≡ matryoshka-rule scale (Operation.multiply x y) ⌝ }
@@ -78,7 +100,7 @@ pub fn multiply(scale: u32, x: Matryoshka, y: Matryoshka) -> MatryoshkaStep
     let strays = rounding::spread(far_x, y.stray, size_y, x.stray);
     let doubts = rounding::spread(far_x + x.margin, y.margin, size_y + y.stray, x.margin);
     let stray = rounding::up(scale, strays);
-    let margin = rounding::up(scale, doubts + rounding::half(scale));
+    let margin = rounding::up(scale, doubts + rounding_doubt(scale, x, y));
     keep(Matryoshka {
         middle,
         stray,

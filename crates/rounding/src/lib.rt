@@ -1,6 +1,6 @@
 // Round and Up: each adds a part of a unit, then drops what is below one.
 ghost use mathlib.Core.Path.{_≡_};
-ghost use Prim.Native.Nat.{_+_, _-_, _*_, _/_, _^_, _≤_, _<_};
+ghost use Prim.Native.Nat.{_+_, _-_, _*_, _/_, _%_, _^_, _≤_, _<_};
 ghost use lib.Dec.{leb};
 ghost use lib.IntN.{pos, natAbs, _+ℤ_, _-ℤ_, _*ℤ_};
 ghost use Rattle.rules.specs.Numbers.{M, Q, h, top-scale, Round, Up};
@@ -51,6 +51,14 @@ pub fn half(scale: u32) -> u64
     ensures { λ r. ⌜ (r ≡ h scale) × (r ≤ 2 ^ 30) ⌝ }
 {
     part(scale, 1, 0)
+}
+
+// What p has over a multiple of Q: its low bits.
+pub fn over_units(scale: u32, p: u64) -> u64
+    requires { ⌜ scale ≤ top-scale ⌝ }
+    ensures { λ r. ⌜ (r ≡ p % Q scale) × (r < 2 ^ 31) ⌝ }
+{
+    p & part(scale, 0, 1)
 }
 
 // Half a unit goes on before the floor, so a tie goes towards plus infinity.

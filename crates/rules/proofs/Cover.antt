@@ -9,7 +9,7 @@ use native.Mathlib.Omega.{arith}
 use lib.IntN.{ℤ, pos, natAbs, _+ℤ_, _-ℤ_, _*ℤ_}
 use Rattle.rules.specs.declared.Ball.{Ball}
 use Rattle.rules.specs.declared.Matryoshka.{Matryoshka}
-use Rattle.rules.specs.Numbers.{Q, h, Round, Up}
+use Rattle.rules.specs.Numbers.{Q, Round, Up}
 use Rattle.rules.specs.Values.{Covers, plain-reach, ball-reach, matryoshka-reach}
 use Rattle.rules.specs.Reciprocals.{T, Inverse, plain-may-be-zero, ball-may-be-zero, matryoshka-may-be-zero}
 use Rattle.rules.specs.Operation.{Operation, each, divides-by-zero, Alike, constants, negations, sums, differences, products, coefficients, reciprocals}
@@ -17,9 +17,10 @@ use Rattle.refusals.specs.Answer.{value}
 use Rattle.rules.specs.Steps.{step-answer}
 use Rattle.rules.specs.Plain.{plain-result, plain-rule}
 use Rattle.rules.specs.Balls.{ball-reciprocal, ball-result, ball-rule}
-use Rattle.rules.specs.Matryoshki.{matryoshka-reciprocal, matryoshka-result, matryoshka-rule}
+use Rattle.rules.specs.Matryoshki.{rounding-doubt, matryoshka-reciprocal, matryoshka-result, matryoshka-rule}
 use Rattle.rules.proofs.Reach.{Accepted, step-accepts, step-accepted}
-use Rattle.rules.proofs.Rounding.{round-near, round-loss, ceiling-mono, up-mono}
+use Rattle.rules.proofs.Rounding.{round-near, ceiling-mono, up-mono}
+use Rattle.rules.proofs.Whole.{product-loss}
 use Rattle.rules.proofs.Zeros.{away-plain, ball-away, away-ball, matryoshka-away}
 use Rattle.rules.proofs.Reciprocal.{inverses-within, inexact-most}
 use Rattle.whole.proofs.Ring.{ring, lit, neg, _⊕_, _⊖_, _⊗_, x₀, x₁, x₂, x₃}
@@ -63,12 +64,12 @@ module _ (F : ℕ) {x y : Matryoshka} {a b : Ball} (p : Covers x a) (q : Covers 
 
   product-doubts : let c = Round F (a .centre *ℤ b .centre) in
       Up F ((natAbs (a .centre) + a .margin) * b .margin + natAbs (b .centre) * a .margin + natAbs (a .centre *ℤ b .centre -ℤ c *ℤ pos (Q F)))
-      ≤ Up F ((natAbs (x .middle) + x .stray + x .margin) * y .margin + (natAbs (y .middle) + y .stray) * x .margin + h F)
+      ≤ Up F ((natAbs (x .middle) + x .stray + x .margin) * y .margin + (natAbs (y .middle) + y .stray) * x .margin + rounding-doubt F x y)
   product-doubts =
       up-mono F
       (add-le-add
       (add-le-add (mul-le-mul (add-le-add (covered-size p) (p .doubts)) (q .doubts)) (mul-le-mul (covered-size q) (p .doubts)))
-      (round-loss F (a .centre *ℤ b .centre)))
+      (product-loss F p q))
 
 module _ {x : Matryoshka} {a : Ball} (p : Covers x a) (away : x .stray + x .margin < natAbs (x .middle)) where
   -- a covered centre is at least t = |A| − R from 0

@@ -4,7 +4,9 @@ pub mod Zeros
 pub mod Reciprocal
 pub mod Reach
 pub mod Enclosure
+pub mod Whole
 pub mod Cover
+pub mod Times
 pub mod Quotients
 pub mod OneStep
 pub mod Lists

@@ -3,14 +3,14 @@
 use mathlib.Core.Path.{_≡_, refl, sym, _∙_, ap, ap₂, subst}
 use mathlib.Core.List.{[], _∷_}
 use Prim.Native.Nat.{ℕ, zero, suc, _+_, _-_, _*_, _%_, _≤_, _<_}
-use native.Mathlib.Nat.{le-refl, le-trans, mul-le-mul-left, le-div-iff-mul-le, div-lt-iff-lt-mul, lt-div-mul-add, pow-suc}
+use native.Mathlib.Nat.{le-refl, le-trans, le-antisymm, mul-le-mul-left, le-div-iff-mul-le, div-lt-iff-lt-mul, lt-div-mul-add, pow-suc}
 use native.Mathlib.Omega.{arith}
 use lib.IntN.{ℤ, pos, natAbs, _+ℤ_, _-ℤ_, _*ℤ_}
 use lib.Pow.{pow-pos}
 use lib.Signed.{shrZ}
 use Rattle.rules.specs.Numbers.{Q, h, Round, ceiling, Up}
-use Rattle.whole.proofs.Floor.{rest, rest-lt, rest-shift, floor-split, floor-shift}
-use Rattle.whole.proofs.Ring.{ring, _⊕_, _⊖_, _⊗_, x₀, x₁, x₂, x₃, x₄}
+use Rattle.whole.proofs.Floor.{rest, rest-lt, rest-shift, floor-split, floor-unique, floor-shift}
+use Rattle.whole.proofs.Ring.{ring, lit, _⊕_, _⊖_, _⊗_, x₀, x₁, x₂, x₃, x₄}
 use Rattle.whole.proofs.Size.{size-add, size-mul, size-gap}
 
 -- h is half of Q, rounded down
@@ -56,6 +56,16 @@ round-loss F p =
     subst (λ (z : ℤ). natAbs z ≤ h F) (sym (round-lost F p))
     (size-gap (remainder F p) (h F) (omega (arith, remainder-lt F p, h-half F)) (omega arith))
 
+-- a multiple of Q loses nothing
+pub round-whole : (F : ℕ) (n : ℤ) → Round F (n *ℤ pos (Q F)) ≡ n
+unfolding Round
+round-whole F n = floor-unique n (h F) (omega (arith, h-half F, pow-pos F))
+
+pub round-exact : (F : ℕ) (p n : ℤ) → p ≡ n *ℤ pos (Q F) → natAbs (p -ℤ Round F p *ℤ pos (Q F)) ≡ 0
+round-exact F p n e =
+    ap (λ (z : ℤ). natAbs (z -ℤ Round F z *ℤ pos (Q F))) e
+    ∙ ap natAbs (ap (λ (z : ℤ). n *ℤ pos (Q F) -ℤ z *ℤ pos (Q F)) (round-whole F n) ∙ ring (n ∷ pos (Q F) ∷ []) (x₀ ⊗ x₁ ⊖ x₀ ⊗ x₁) (lit (pos 0)) refl)
+
 -- what is rounded up covers, and it is the least that does
 pub ceiling-covers : (p : ℕ) {q : ℕ} → 0 < q → p ≤ ceiling p q * q
 ceiling-covers p {q} h = omega (arith, lt-div-mul-add {a = p + (q - 1)} h)
@@ -77,6 +87,11 @@ ceiling-mono {m} {n} {p} {q} h l k =
 pub up-covers : (F p : ℕ) → p ≤ Up F p * Q F
 unfolding Up
 up-covers F p = ceiling-covers p (pow-pos F)
+
+-- a multiple of Q is rounded up to itself
+pub up-whole : (F n : ℕ) → Up F (n * Q F) ≡ n
+unfolding Up
+up-whole F n = le-antisymm (ceiling-at-most n (pow-pos F) (le-refl (n * Q F))) (ceiling-least n (n * Q F) (pow-pos F) (omega arith))
 
 pub up-least : (F n p : ℕ) → n * Q F ≤ p + (Q F - 1) → n ≤ Up F p
 unfolding Up

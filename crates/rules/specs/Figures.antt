@@ -1,5 +1,5 @@
 -- Document 01, "Figures on each side of a limit": the marked ones, as one table of steps and what each must answer; and
--- a table each for requests b and e.
+-- a table each for requests b, e and g.
 use mathlib.Core.Path.{_≡_}
 use mathlib.Core.List.{List, [], _∷_, map}
 use Prim.Native.Nat.{ℕ}
@@ -61,7 +61,7 @@ figures =
     ∷ (on-matryoshki 4 (multiply (matryoshka (pos 1) 0 0) (matryoshka (pos 1) 0 0)) gives value
     (pos 0 ∷ pos 0 ∷ pos 1 ∷ []))
     ∷ (on-matryoshki 4 (multiply (matryoshka (pos 16) 0 0) (matryoshka (pos 5) 2 0)) gives value
-    (pos 5 ∷ pos 2 ∷ pos 1 ∷ []))
+    (pos 5 ∷ pos 2 ∷ pos 0 ∷ []))
     ∷ (on-balls 0 (add (ball (pos 2147483646) 1) (ball (pos 0) 0)) gives value (pos 2147483646 ∷ pos 1 ∷ []))
     ∷ (on-balls 0 (add (ball (pos 2147483646) 1) (ball (pos 0) 1)) gives refused 11)
     ∷ []
@@ -121,4 +121,31 @@ reciprocal-figures =
     (pos 536870912 ∷ pos 76695845 ∷ pos 102261128 ∷ []))
     ∷ (on-matryoshki 16 (reciprocal (matryoshka (pos 2) 0 0)) gives refused 11)
     ∷ (on-matryoshki 16 (reciprocal (matryoshka (pos 2) 1 1)) gives refused 17)
+    ∷ []
+
+-- 1.0 times x at scale 4, either way round, is x; 3 times it and −2 times it are its stray and margin times 3 and 2. A whole
+-- middle that strays, a middle that is not whole and a reading's whole middle leave h in; a margin of the whole factor's
+-- own stays. At scale 0 every middle is whole and h is 0 in any case; at scale 30 only 1, 0 and −1 are.
+abbrev pub whole-figures : List Figure
+whole-figures =
+    (on-matryoshki 4 (multiply (matryoshka (pos 16) 0 0) (matryoshka (pos 5) 2 1)) gives value (pos 5 ∷ pos 2 ∷ pos 1 ∷ []))
+    ∷ (on-matryoshki 4 (multiply (matryoshka (pos 5) 2 1) (matryoshka (pos 16) 0 0)) gives value (pos 5 ∷ pos 2 ∷ pos 1 ∷ []))
+    ∷ (on-matryoshki 4 (multiply (matryoshka (pos 48) 0 0) (matryoshka (pos 5) 2 1)) gives value
+    (pos 15 ∷ pos 6 ∷ pos 3 ∷ []))
+    ∷ (on-matryoshki 4 (multiply (matryoshka (pos 5) 2 1) (matryoshka (negsuc 31) 0 0)) gives value
+    (negsuc 9 ∷ pos 4 ∷ pos 2 ∷ []))
+    ∷ (on-matryoshki 4 (multiply (matryoshka (pos 0) 0 0) (matryoshka (pos 5) 2 1)) gives value (pos 0 ∷ pos 0 ∷ pos 0 ∷ []))
+    ∷ (on-matryoshki 4 (multiply (matryoshka (pos 16) 0 0) (matryoshka (pos 32) 0 0)) gives value
+    (pos 32 ∷ pos 0 ∷ pos 0 ∷ []))
+    ∷ (on-matryoshki 4 (multiply (matryoshka (pos 16) 1 0) (matryoshka (pos 5) 2 0)) gives value (pos 5 ∷ pos 3 ∷ pos 1 ∷ []))
+    ∷ (on-matryoshki 4 (multiply (matryoshka (pos 5) 2 0) (matryoshka (pos 16) 1 0)) gives value (pos 5 ∷ pos 3 ∷ pos 1 ∷ []))
+    ∷ (on-matryoshki 4 (multiply (matryoshka (pos 17) 0 0) (matryoshka (pos 5) 2 0)) gives value (pos 5 ∷ pos 3 ∷ pos 1 ∷ []))
+    ∷ (on-matryoshki 4 (multiply (matryoshka (pos 5) 2 0) (matryoshka (pos 15) 0 0)) gives value (pos 5 ∷ pos 2 ∷ pos 1 ∷ []))
+    ∷ (on-matryoshki 4 (multiply (matryoshka (pos 16) 0 1) (matryoshka (pos 5) 2 0)) gives value (pos 5 ∷ pos 2 ∷ pos 1 ∷ []))
+    ∷ (on-matryoshki 0 (multiply (matryoshka (pos 3) 0 0) (matryoshka (pos 5) 2 1)) gives value
+    (pos 15 ∷ pos 6 ∷ pos 3 ∷ []))
+    ∷ (on-matryoshki 30 (multiply (matryoshka (negsuc 1073741823) 0 0) (matryoshka (pos 5) 2 0)) gives value
+    (negsuc 4 ∷ pos 2 ∷ pos 0 ∷ []))
+    ∷ (on-matryoshki 30 (multiply (matryoshka (pos 1073741823) 0 0) (matryoshka (pos 5) 2 0)) gives value
+    (pos 5 ∷ pos 2 ∷ pos 1 ∷ []))
     ∷ []

@@ -10,6 +10,7 @@ use lib.Dec.{T, ltb, ltb→lt}
 use lib.IntN.{ℤ, pos, negsuc, negℤ, natAbs, subℕ, _+ℤ_, _-ℤ_, _*ℤ_, negℤ-negℤ, negℤ-+ℤ, +ℤ-comm, +ℤ-idr, -ℤ-+ℤ-cancel}
 use lib.ListN.{getD}
 use lib.Signed.{mag}
+use Rattle.whole.proofs.Cases.{no-suc}
 use Rattle.whole.proofs.Ring.{Expr, var, lit, neg, _⊕_, _⊗_, worth}
 
 pub size-neg : (z : ℤ) → natAbs (negℤ z) ≡ natAbs z
@@ -56,6 +57,10 @@ size-gap a (suc b) ha hb = size-subℕ a (suc b) ha hb
 -- a number that equals another is bounded as that is
 pub size-by : {z w : ℤ} {n : ℕ} → z ≡ w → natAbs w ≤ n → natAbs z ≤ n
 size-by {n} e l = subst (λ (v : ℤ). natAbs v ≤ n) (sym e) l
+
+pub size-zero : (z : ℤ) → natAbs z ≡ 0 → z ≡ pos 0
+size-zero (pos n) e = ap pos e
+size-zero (negsuc n) e = absurd (no-suc (sym e))
 
 pub mag-size : (z : ℤ) → mag z ≤ natAbs z
 mag-size (pos n) = le-refl n

@@ -13,6 +13,7 @@ use Rattle.refusals.proofs.Answers.{same-value}
 use Rattle.bits.specs.Bits.{to-bits, bits, number}
 use Rattle.bits.specs.Reader.{field}
 use Rattle.rules.specs.Numbers.{h, Round, Up}
+use Rattle.rules.specs.Matryoshki.{is-whole, rounding-doubt}
 use Rattle.rules.specs.Values.{Fraction, Contains}
 use Rattle.rules.specs.Steps.{within-reach}
 use Rattle.rules.specs.Balls.{ball}
@@ -126,7 +127,7 @@ unfolding to-bits bits number field tested-field twos-complement header by-code 
 bare = record { says = refl; works = refl; gives = refl }
 
 pub margins-as-strays-fails : (q : Program matryoshka-kind) → Fails matryoshka-kind Admits (margins-as-strays q)
-unfolding to-bits bits number field tested-field twos-complement header by-code instruction several is-padding body formula meant h Round Up within-reach
+unfolding to-bits bits number field tested-field twos-complement header by-code instruction several is-padding body formula meant h Round Up within-reach is-whole rounding-doubt
 margins-as-strays-fails q =
     record {
       at = admitting;

@@ -13,6 +13,7 @@ use Rattle.bits.specs.Bits.{to-bits, bits, number}
 use Rattle.bits.specs.Reader.{field}
 use Rattle.rules.specs.declared.Ball.{Ball}
 use Rattle.rules.specs.Numbers.{h, Round, Up}
+use Rattle.rules.specs.Matryoshki.{is-whole, rounding-doubt}
 use Rattle.rules.specs.Steps.{within-reach}
 use Rattle.rules.specs.Lists.{ball-lists, matryoshka-lists}
 use Rattle.formulas.specs.declared.Instruction.the-variants.{Add, Multiply}
@@ -54,7 +55,7 @@ admitting =
 
 pub refuses-all-stopped : (why : Input matryoshka-kind → Refusal) (q : Program matryoshka-kind)
     → Stopped matryoshka-kind (refuses-all why q)
-unfolding to-bits bits number field tested-field header by-code instruction several is-padding body formula meant h Round Up within-reach least judged readings-tested start job
+unfolding to-bits bits number field tested-field header by-code instruction several is-padding body formula meant h Round Up within-reach is-whole rounding-doubt least judged readings-tested start job
 refuses-all-stopped why q =
     record { at = admitting; refuses = λ k. never-both (sym (k .says)) }
 

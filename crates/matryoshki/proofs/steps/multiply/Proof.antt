@@ -65,12 +65,12 @@ spread-requires-2 c κs =
     (omega (arith, e, s .pre .1), omega (arith, f, s .pre .2), omega arith)
 
 add-up : tie.Need-add-up
-add-up c = record { fits = omega (arith, c .before .before .spread2 .ensures .1, c .half .ensures .1) }
+add-up c = record { fits = omega (arith, c .before .before .spread2 .ensures .1, c .rounding-doubt .ensures .1) }
 
 up-requires-2 : tie.Need-up-requires-2
 up-requires-2 c κs =
     let s = c .before .before .before .before .before .before .before .before .before .before .before .before .before .before in
-    (s .pre .0, omega (arith, c .before .before .spread2 .ensures .1, c .half .ensures .1))
+    (s .pre .0, omega (arith, c .before .before .spread2 .ensures .1, c .rounding-doubt .ensures .1))
 
 keep-requires : tie.Need-keep-requires
 keep-requires c κs = omega (arith, c .before .before .up .ensures .1, c .up2 .ensures .1)
@@ -94,7 +94,7 @@ returns c =
     (c .before .up2 .ensures .0
     ∙ ap₂ (λ (d n : ℕ). Up F (d + n))
     (c .before .before .before .before .spread2 .ensures .0 ∙ ap₂ (λ (m n : ℕ). (m + x .stray + x .margin) * y .margin + (n + y .stray) * x .margin) e f)
-    (c .before .before .half .ensures .0))
+    (c .before .before .rounding-doubt .ensures .0))
 
 pub multiply-spec : {M : Type 1} → statement M
 multiply-spec =
