@@ -5,7 +5,7 @@ use Prim.Native.Nat.{ℕ}
 use native.Mathlib.Omega.{arith}
 use lib.ListN.{getD}
 use Rattle.refusals.specs.declared.Refusal.{Refusal}
-use Rattle.refusals.specs.declared.Refusal.the-variants.{Ended, Version, Scale, Count, Code, Operand, Constant, Padding, NoRoom, OutOfReach, AnotherForm, ReadingCount, NegativeMargin, ReadingTooLarge, ReciprocalScale, MayBeZero}
+use Rattle.refusals.specs.declared.Refusal.the-variants.{Ended, Version, Scale, Count, Code, Operand, Constant, Padding, NoRoom, OutOfReach, AnotherForm, ReadingCount, NegativeMargin, ReadingTooLarge, ReciprocalScale, MayBeZero, Misplaced, TooDeep}
 use Rattle.refusals.specs.declared.Reply.{Reply}
 use Rattle.refusals.specs.declared.Reply.the-variants.{Done, Refused}
 use Rattle.refusals.specs.declared.Verdict.{Verdict}
@@ -20,7 +20,7 @@ use Rattle.refusals.proofs.Answers.{no-value, refused-same}
 abbrev in-order : List Refusal
 in-order =
     Ended ∷ Ended ∷ Version ∷ Scale ∷ Count ∷ Code ∷ Operand ∷ Constant ∷ Padding ∷ Ended ∷ NoRoom ∷ OutOfReach ∷ AnotherForm
-    ∷ ReadingCount ∷ NegativeMargin ∷ ReadingTooLarge ∷ ReciprocalScale ∷ MayBeZero ∷ []
+    ∷ ReadingCount ∷ NegativeMargin ∷ ReadingTooLarge ∷ ReciprocalScale ∷ MayBeZero ∷ Misplaced ∷ TooDeep ∷ []
 
 number-back : (r : Refusal) → getD in-order (refusal-number r) Ended ≡ r
 number-back Ended = refl
@@ -39,6 +39,8 @@ number-back NegativeMargin = refl
 number-back ReadingTooLarge = refl
 number-back ReciprocalScale = refl
 number-back MayBeZero = refl
+number-back Misplaced = refl
+number-back TooDeep = refl
 
 pub same-number : (q r : Refusal) → refusal-number q ≡ refusal-number r → q ≡ r
 same-number q r e = sym (number-back q) ∙ ap (λ (n : ℕ). getD in-order n Ended) e ∙ number-back r

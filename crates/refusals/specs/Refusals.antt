@@ -1,4 +1,4 @@
--- Document 01, "Numbered replies and their order", with requests b, c and e: the paper's number for each refusal.
+-- Document 01, "Numbered replies and their order", with requests b, c, e and h: the paper's number for each refusal.
 use Prim.Native.Nat.{ℕ, _≤_}
 use Rattle.refusals.specs.declared.Refusal.{Refusal}
 use Rattle.refusals.specs.declared.Refusal.the-variants as refusal
@@ -8,7 +8,8 @@ use Rattle.refusals.specs.declared.Refusal.the-variants as refusal
 -- "a padding bit is set or a byte follows" · "9 is no longer given" · "a work list has under m+l places or an output
 -- list under n" · "a step's result is out of reach" · "input of another form" · "wrong number of readings" · "a stray
 -- or margin is negative" · "reach or size" · "the scale is over 16" · "a is 0 .., |a| is at most r .. or |A| is at most
--- R+r"
+-- R+r" · "the first byte that no text of this grammar with this beginning has there" · "the 33rd parenthesis or
+-- factor's minus open at once"
 abbrev pub refusal-number : Refusal → ℕ
 refusal-number refusal.Ended = 1
 refusal-number refusal.Version = 2
@@ -26,6 +27,8 @@ refusal-number refusal.NegativeMargin = 14
 refusal-number refusal.ReadingTooLarge = 15
 refusal-number refusal.ReciprocalScale = 16
 refusal-number refusal.MayBeZero = 17
+refusal-number refusal.Misplaced = 18
+refusal-number refusal.TooDeep = 19
 
 -- the refusals of the bytes: "1 to 8", and "16 at reading"
 pub data OfBytes : ℕ → Type 0 where

@@ -21,6 +21,8 @@ pub enum Refusal {
     ReadingTooLarge,
     ReciprocalScale,
     MayBeZero,
+    Misplaced,
+    TooDeep,
 }
 
 // Whether what a caller brought passed its test, or why not and at which place.
@@ -56,5 +58,7 @@ pub fn number_of(r: Refusal) -> u32
         Refusal::ReadingTooLarge => 15,
         Refusal::ReciprocalScale => 16,
         Refusal::MayBeZero => 17,
+        Refusal::Misplaced => 18,
+        Refusal::TooDeep => 19,
     }
 }
