@@ -81,11 +81,12 @@ fn rounding_doubt(scale: u32, x: Matryoshka, y: Matryoshka) -> u64
     requires { ⌜ (scale ≤ top-scale) × IsMatryoshka x × IsMatryoshka y ⌝ }
     ensures { λ r. ⌜ (r ≡ rounding-doubt scale x y) × (r ≤ 2 ^ 30) ⌝ }
 {
-    if is_whole(scale, x) {
-        return 0;
-    }
-    if is_whole(scale, y) {
-        return 0;
+    // Where both factors stray, the usual case, one test is enough.
+    if (x.stray == 0) | (y.stray == 0) {
+        if is_whole(scale, x) | is_whole(scale, y) {
+            return 0;
+        }
+        return rounding::half(scale);
     }
     rounding::half(scale)
 }

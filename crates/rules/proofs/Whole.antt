@@ -16,7 +16,7 @@ use Rattle.rules.specs.Numbers.{Q, h, Round}
 use Rattle.rules.specs.Values.{Covers}
 use Rattle.rules.specs.Matryoshki.{is-whole, rounding-doubt}
 use Rattle.rules.proofs.Rounding.{round-loss, round-exact}
-use Rattle.whole.proofs.Cases.{both}
+use Rattle.whole.proofs.Cases.{both, never}
 use Rattle.whole.proofs.Laws.{neg-mulℤ}
 use Rattle.whole.proofs.Ring.{ring, _⊗_, x₀, x₁, x₂}
 use Rattle.whole.proofs.Size.{size-zero}
@@ -91,17 +91,28 @@ doubt-stays : (F : ℕ) (x y : Matryoshka) → is-whole F x ≡ false → is-who
 unfolding rounding-doubt
 doubt-stays F x y p q = ap₂ (λ s t. cond (s || t) 0 (h F)) p q
 
+neither : (s t : Bool) → s || t ≡ false → (s ≡ false) × (t ≡ false)
+neither false false e = (refl, refl)
+neither false true e = (refl, e)
+neither true t e = (e, never e)
+
+strays : (F : ℕ) (m : Matryoshka) → eqb (m .stray) 0 ≡ false → is-whole F m ≡ false
+unfolding is-whole
+strays F m e = ap (λ t. t && eqb (natAbs (m .middle) % Q F) 0) e
+
 -- as the code tests them
-module _ (F : ℕ) (x y : Matryoshka) {t : Bool} (first : t ≡ is-whole F x) where
-  pub first-whole : t ≡ true → 0 ≡ rounding-doubt F x y
-  first-whole e = sym (doubt-left-out F x y (inl (is-whole-then F x (sym first ∙ e))))
+module _ (F : ℕ) (x y : Matryoshka) where
+  pub both-stray : {n : ℕ} → eqb (x .stray) 0 || eqb (y .stray) 0 ≡ false → n ≡ h F → n ≡ rounding-doubt F x y
+  both-stray e g = let s = neither _ _ e in g ∙ sym (doubt-stays F x y (strays F x (s .0)) (strays F y (s .1)))
 
-  module _ {u : Bool} (second : u ≡ is-whole F y) where
-    pub second-whole : u ≡ true → 0 ≡ rounding-doubt F x y
-    second-whole e = sym (doubt-left-out F x y (inr (is-whole-then F y (sym second ∙ e))))
+  module _ {t u : Bool} (first : t ≡ is-whole F x) (second : u ≡ is-whole F y) where
+    pub either-whole : t || u ≡ true → 0 ≡ rounding-doubt F x y
+    unfolding rounding-doubt
+    either-whole e = sym (ap (λ b. cond b 0 (h F)) (sym (ap₂ _||_ first second) ∙ e))
 
-    pub none-whole : {n : ℕ} → t ≡ false → u ≡ false → n ≡ h F → n ≡ rounding-doubt F x y
-    none-whole e f g = g ∙ sym (doubt-stays F x y (sym first ∙ e) (sym second ∙ f))
+    pub neither-whole : {n : ℕ} → t || u ≡ false → n ≡ h F → n ≡ rounding-doubt F x y
+    unfolding rounding-doubt
+    neither-whole e g = g ∙ sym (ap (λ b. cond b 0 (h F)) (sym (ap₂ _||_ first second) ∙ e))
 
 -- what rounding a product of covered centres loses is within the doubt
 abbrev lost : ℕ → Ball → Ball → ℕ

@@ -1,6 +1,6 @@
 -- `rounding_doubt` meets its contract. Assumes nothing.
 use borrow.Author.Needs.{needs}
-use Rattle.rules.proofs.Whole.{first-whole, second-whole, none-whole}
+use Rattle.rules.proofs.Whole.{either-whole, neither-whole, both-stray}
 use Rattle.matryoshki.proofs.steps.rounding_doubt.Statement.{statement}
 use Rattle.matryoshki.proofs.steps.rounding_doubt.Tie as tie
 
@@ -9,8 +9,9 @@ rounding-doubt-spec =
     tie.close
     (tie.spec
     (λ c κs. search needs)
-    (λ c. search (needs, first-whole))
     (λ c κs. search needs)
-    (λ c. search (needs, second-whole))
+    (λ c. search (needs, either-whole))
     (λ c κs. search needs)
-    (λ c. search (needs, none-whole)))
+    (λ c. search (needs, neither-whole))
+    (λ c κs. search needs)
+    (λ c. search (needs, both-stray)))
