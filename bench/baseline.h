@@ -1,5 +1,5 @@
-/* The four jobs, the ball job with doubles, packing and reading back by hand in C, with the signatures of margins.h: what the proved library
- * is measured against. */
+/* The four jobs, the ball job with doubles, packing from lists and from a text, and reading back by hand in C, with the signatures of
+ * margins.h: what the proved library is measured against. */
 #ifndef BASELINE_H
 #define BASELINE_H
 
@@ -12,6 +12,7 @@ __typeof__(margins_ball) baseline_ball;
 __typeof__(margins_ball_doubles) baseline_ball_doubles;
 __typeof__(margins_admit) baseline_admit;
 __typeof__(margins_pack) baseline_pack;
+__typeof__(margins_pack_text) baseline_pack_text;
 __typeof__(margins_unpack) baseline_unpack;
 
 #endif

@@ -5,5 +5,6 @@
 #define margins_ball_doubles baseline_ball_doubles
 #define margins_admit baseline_admit
 #define margins_pack baseline_pack
+#define margins_pack_text baseline_pack_text
 #define margins_unpack baseline_unpack
 #define WITHOUT_RECORDS

@@ -4,17 +4,18 @@
 #include "baseline.h"
 #include "workloads.h"
 
+#include <stdbool.h>
 #include <stdio.h>
 #include <stdlib.h>
 #include <string.h>
 #include <time.h>
 
-enum { CHECK, PLAIN, BALL, ADMIT, PACK, UNPACK, DOUBLES, JOBS };
+enum { CHECK, PLAIN, BALL, ADMIT, PACK, UNPACK, DOUBLES, TEXT, JOBS };
 enum { BASELINE, LIBRARY, SIDES };
 enum { ROUNDS = 501, BATCH_NANOSECONDS = 20000, TRIED_RUNS = 100 };
 enum { VALUES = MARGINS_MOST_VALUES, OUTPUTS = MARGINS_MOST_OUTPUTS, STEPS = MARGINS_MOST_INSTRUCTIONS, BYTES = MARGINS_MOST_BYTES };
 
-static const char *const job_names[JOBS] = {"check", "plain", "ball", "admit", "pack", "unpack", "doubles"};
+static const char *const job_names[JOBS] = {"check", "plain", "ball", "admit", "pack", "unpack", "doubles", "text"};
 static const uint32_t growing[] = {16, 64, 256, 512};
 
 /* What a run leaves, cleared before two runs are compared. */
@@ -64,6 +65,10 @@ typedef uint32_t run(const workload *w);
     {                                                                                                                                    \
         return side##_ball_doubles(w->bytes, w->length, w->middles, w->inputs, w->margins, w->inputs, left.work, VALUES,                 \
                                    left.work_margins, VALUES, left.double_centres, OUTPUTS, left.double_margins, OUTPUTS).refusal;       \
+    }                                                                                                                                    \
+    static uint32_t side##_text_run(const workload *w)                                                                                   \
+    {                                                                                                                                    \
+        return side##_pack_text(w->scale, w->inputs, (const uint8_t *)w->text, w->text_length, left.bytes, BYTES).refusal;               \
     }
 
 RUNS(baseline)
@@ -71,9 +76,9 @@ RUNS(margins)
 
 static run *const runs[SIDES][JOBS] = {
     {baseline_check_run, baseline_plain_run, baseline_ball_run, baseline_admit_run, baseline_pack_run, baseline_unpack_run,
-     baseline_doubles_run},
+     baseline_doubles_run, baseline_text_run},
     {margins_check_run, margins_plain_run, margins_ball_run, margins_admit_run, margins_pack_run, margins_unpack_run,
-     margins_doubles_run},
+     margins_doubles_run, margins_text_run},
 };
 
 typedef struct {
@@ -86,16 +91,31 @@ static void fail(const char *why, const workload *w, int job)
     exit(1);
 }
 
+static bool has(const workload *w, int job)
+{
+    return job != TEXT || w->text_length;
+}
+
+/* The header's count of the formula that was packed last. */
+static uint32_t packed_instructions(void)
+{
+    return (left.bytes[2] & 127u) << 3 | left.bytes[3] >> 5;
+}
+
 /* Both sides accept and leave the same. */
 static void agree(const workload *w)
 {
     static __typeof__(left) kept;
     for (int job = 0; job < JOBS; job++) {
+        if (!has(w, job))
+            continue;
         memset(&left, 0, sizeof left);
         if (runs[BASELINE][job](w))
             fail("the baseline refuses", w, job);
         if (job == PACK && memcmp(left.bytes, w->bytes, sizeof left.bytes))
             fail("the baseline packs other bytes", w, job);
+        if (job == TEXT && packed_instructions() != w->instructions)
+            fail("the text has another number of instructions", w, job);
         kept = left;
         memset(&left, 0, sizeof left);
         if (runs[LIBRARY][job](w))
@@ -136,19 +156,21 @@ static medians measure(const workload *w)
 {
     static double taken[SIDES][JOBS][ROUNDS];
     int times[SIDES][JOBS];
-    medians found;
+    medians found = {{{0}}};
     agree(w);
     for (int side = 0; side < SIDES; side++)
         for (int job = 0; job < JOBS; job++)
-            times[side][job] = 1 + (int)(BATCH_NANOSECONDS / batch(runs[side][job], w, TRIED_RUNS));
+            times[side][job] = has(w, job) ? 1 + (int)(BATCH_NANOSECONDS / batch(runs[side][job], w, TRIED_RUNS)) : 0;
     for (int job = 0; job < JOBS; job++)
-        for (int round = 0; round < ROUNDS; round++)
+        for (int round = 0; has(w, job) && round < ROUNDS; round++)
             for (int turn = 0; turn < SIDES; turn++) {
                 int side = (turn + round) % SIDES;
                 taken[side][job][round] = batch(runs[side][job], w, times[side][job]);
             }
     for (int side = 0; side < SIDES; side++)
         for (int job = 0; job < JOBS; job++) {
+            if (!has(w, job))
+                continue;
             qsort(taken[side][job], ROUNDS, sizeof(double), by_size);
             found.nanoseconds[side][job] = taken[side][job][ROUNDS / 2];
         }
@@ -170,7 +192,10 @@ static void ratios(const workload *w, int count)
         medians found = measure(&w[i]);
         printf("%-24s", w[i].name);
         for (int job = 0; job < JOBS; job++)
-            printf("%8.2f", found.nanoseconds[LIBRARY][job] / found.nanoseconds[BASELINE][job]);
+            if (has(&w[i], job))
+                printf("%8.2f", found.nanoseconds[LIBRARY][job] / found.nanoseconds[BASELINE][job]);
+            else
+                printf("%8s", "-");
         printf("%24.2f\n", found.nanoseconds[LIBRARY][BALL] / found.nanoseconds[LIBRARY][PLAIN]);
     }
 }

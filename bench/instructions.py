@@ -4,10 +4,11 @@ import re
 import subprocess
 import sys
 
-JOBS = ("check", "plain", "ball", "admit", "pack", "unpack", "doubles")
+JOBS = ("check", "plain", "ball", "admit", "pack", "unpack", "doubles", "text")
 WORKLOADS = ("dot product of 8", "polynomial of degree 15", "mix of 512", "coefficients, degree 21", "reciprocals, 8 quotients")
 BASELINE, LIBRARY = 0, 1
 RUNS = 100
+WITHOUT_TEXT = ("reciprocals, 8 quotients",)
 
 
 def total(bench, *words):
@@ -21,11 +22,16 @@ def instructions(bench, workload, side, job):
     return (total(bench, workload, side, job, RUNS) - total(bench, workload, side, job, 0)) / RUNS
 
 
+def ratio(bench, workload, job):
+    if JOBS[job] == "text" and WORKLOADS[workload] in WITHOUT_TEXT:
+        return "-"
+    return f"{instructions(bench, workload, LIBRARY, job) / instructions(bench, workload, BASELINE, job):.2f}"
+
+
 def main(bench):
     print(f"{'instructions':<24}" + "".join(f"{job:>8}" for job in JOBS))
     for workload, name in enumerate(WORKLOADS):
-        both = [(instructions(bench, workload, LIBRARY, job), instructions(bench, workload, BASELINE, job)) for job in range(len(JOBS))]
-        print(f"{name:<24}" + "".join(f"{library / baseline:8.2f}" for library, baseline in both))
+        print(f"{name:<24}" + "".join(f"{ratio(bench, workload, job):>8}" for job in range(len(JOBS))))
 
 
 if __name__ == "__main__":

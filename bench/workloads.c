@@ -1,5 +1,7 @@
 #include "workloads.h"
 
+#include "texts.h"
+
 #include <stdio.h>
 
 enum { CONSTANT, NEGATE, ADD, SUBTRACT, MULTIPLY, COEFFICIENT, RECIPROCAL };
@@ -96,6 +98,7 @@ workload dot_product(void)
         two(&p, MULTIPLY, i, TERMS + i);
     for (uint32_t i = 1; i < TERMS; i++)
         two(&p, ADD, i == 1 ? 2 * TERMS : 3 * TERMS + i - 2, 2 * TERMS + i);
+    write_dot_product(&p.made);
     return finish(&p);
 }
 
@@ -109,6 +112,7 @@ workload polynomial(void)
         constant(&p, (int32_t)any(&p, 2 * UNIT) - UNIT);
         two(&p, ADD, sum + 1, sum + 2);
     }
+    write_polynomial(&p.made, DEGREE, 0);
     return finish(&p);
 }
 
@@ -123,6 +127,7 @@ workload coefficients(void)
         coefficient(&p, centre, any(&p, MOST_MARGIN));
         two(&p, ADD, sum + 1, sum + 2);
     }
+    write_polynomial(&p.made, COEFFICIENTS_DEGREE, 1);
     return finish(&p);
 }
 
@@ -160,5 +165,6 @@ workload mix(uint32_t instructions)
             two(&p, code, late, any(&p, p.made.inputs));
         }
     }
+    write_mix(&p.made);
     return finish(&p);
 }

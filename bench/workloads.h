@@ -1,8 +1,10 @@
-/* Formulas, packed and as lists, with readings for the benchmark; every run of them stays in reach. */
+/* Formulas, packed, as lists and most of them as a text, with readings for the benchmark; every run of them stays in reach. */
 #ifndef WORKLOADS_H
 #define WORKLOADS_H
 
 #include "margins.h"
+
+enum { MOST_TEXT = 4096 };
 
 typedef struct {
     char name[32];
@@ -11,6 +13,8 @@ typedef struct {
     uint32_t scale, inputs, instructions;
     int64_t codes[MARGINS_MOST_INSTRUCTIONS], firsts[MARGINS_MOST_INSTRUCTIONS], seconds[MARGINS_MOST_INSTRUCTIONS], output;
     int64_t middles[MARGINS_MOST_INPUTS], strays[MARGINS_MOST_INPUTS], margins[MARGINS_MOST_INPUTS];
+    _Alignas(64) char text[MOST_TEXT];
+    size_t text_length; /* 0: it has no text */
 } workload;
 
 /* 16 inputs, 8 products and 7 sums. */

@@ -1,4 +1,4 @@
-/* Packed formulas run on readings, each figure with an honest margin; and packed from lists, and read back into them.
+/* Packed formulas run on readings, each figure with an honest margin; and packed from lists or from a text, and read back into lists.
  *
  * Every function may be called with any bytes, any numbers and lists of any length: it answers or refuses, and a refusal
  * writes no output. Nothing has to be checked first. A list is a pointer and the number of its places. Where that number is 0 the
@@ -6,7 +6,7 @@
  * that is all that C cannot promise by itself.
  *
  * Readings, constants and results are whole counts of one unit, 2^-F, where F is the formula's scale; margins_ball_doubles alone gives
- * results as doubles.
+ * results as doubles, and the numbers of a text are decimal numbers.
  *
  * C sees lists of one type as one and the same: each parameter says which list it is. Where a form with records is offered, a centre
  * cannot be swapped with its margin.
@@ -50,8 +50,8 @@ extern "C" {
 #define MARGINS_MOST_BYTES 4248
 
 /* Why there is no answer. A refusal is one of these numbers, 0 is none; a later library may give further ones. 9 is not given any more.
- * They are tested in this order: 1 to 8 and 16 field by field, 13 to 15, 10, then instruction by instruction 17 and 11. Where nothing is
- * said of `place` it is 0. */
+ * They are tested in this order: 1 to 8 and 16 field by field, 13 to 15, 10, then instruction by instruction 17 and 11; of a text 3 and 4,
+ * then 18 and 19 byte by byte, then instruction by instruction 4 and 7, then 10. Where nothing is said of `place` it is 0. */
 enum {
     MARGINS_DONE = 0,
     MARGINS_REFUSED_ENDED = 1,              /* the bytes end inside a field */
@@ -64,6 +64,9 @@ enum {
     MARGINS_REFUSED_CONSTANT = 7,           /* a constant is outside -2147483647 to 2147483647, or its margin is below 0 or
                                              * reaches outside */
     MARGINS_REFUSED_PADDING = 8,            /* a padding bit is set or a byte follows */
+    MARGINS_REFUSED_MISPLACED = 18,         /* no formula's text that begins as this one has this byte at offset `place`; or, where that is
+                                             * the text's length, the text ends too early. What stands before it is good */
+    MARGINS_REFUSED_TOO_DEEP = 19,          /* the byte at offset `place` is the 33rd parenthesis or factor's minus that is open at once */
     MARGINS_REFUSED_RECIPROCAL_SCALE = 16,  /* a reciprocal in a formula whose scale is over 16: pack it with a scale of 0 to 16 */
     MARGINS_REFUSED_READING_COUNT = 13,     /* a list of readings has more or fewer than the formula has inputs: margins_check tells
                                              * how many those are */
@@ -97,6 +100,8 @@ MARGINS_IN_HEADER const char *margins_refusal_text(uint32_t refusal)
         return "a constant is outside -2147483647 to 2147483647, "
                "or its margin is below 0 or reaches outside";
     case MARGINS_REFUSED_PADDING: return "a padding bit is set or a byte follows";
+    case MARGINS_REFUSED_MISPLACED: return "the text has a byte that cannot stand there, or ends too early";
+    case MARGINS_REFUSED_TOO_DEEP: return "over 32 parentheses and minuses of the text are open at once";
     case MARGINS_REFUSED_RECIPROCAL_SCALE: return "a reciprocal in a formula whose scale is over 16";
     case MARGINS_REFUSED_READING_COUNT: return "the number of readings isn't that of the inputs";
     case MARGINS_REFUSED_NEGATIVE_MARGIN: return "a reading has a negative stray or margin";
@@ -128,8 +133,8 @@ typedef struct {
     uint32_t instructions;
 } margins_formula;
 
-/* refusal 0: the formula was written into the first `bytes` places. Else nothing was written and bytes is 0. The place is 0 with every
- * refusal that packing gives. */
+/* refusal 0: the formula was written into the first `bytes` places. Else nothing was written and bytes is 0. The place is the offset of a
+ * byte of the text with MARGINS_REFUSED_MISPLACED and MARGINS_REFUSED_TOO_DEEP; it is 0 with every other refusal that packing gives. */
 typedef struct {
     uint32_t refusal;
     uint32_t bytes;
@@ -235,6 +240,20 @@ MARGINS_MUST_USE margins_packed margins_pack(
     const int64_t *seconds, size_t seconds_length, /* read: a second field for each instruction */
     const int64_t *outputs, size_t outputs_length, /* read: the value that each output names; 1 to 16 */
     uint8_t *formula, size_t formula_length);      /* written: the packed bytes; MARGINS_MOST_BYTES places are always enough */
+
+/* Packs a formula as people write it, such as a*(b-0.25)+c; its one output is the value of the whole text. There are no spaces.
+ * A sum is products joined by + or -, a product is factors joined by *, both grouped from the left. A factor is a letter, a number, a minus
+ * and a factor, or a sum in parentheses. The letter a is input 0, b is input 1, and so on up to p; only those of the inputs are allowed. A
+ * number has 1 to 9 digits in all, with an optional point between digits. It is rounded to units, ties up: where it is a whole number of
+ * units it is a constant, else a coefficient with margin 1. Each number, minus and operator is one instruction, left operand before right,
+ * both before their operator. At most 32 parentheses and factors' minuses are open at once, a parenthesis up to the one that closes it, a
+ * minus up to the end of its factor.
+ * The text may be any bytes; its length does not count a zero that ends it in C. The places behind the formula keep what they held. */
+MARGINS_MUST_USE margins_packed margins_pack_text(
+    int64_t scale,                            /* 0 to 30 */
+    int64_t inputs,                           /* 0 to 16 */
+    const uint8_t *text, size_t text_length,  /* read: the text, in ASCII */
+    uint8_t *formula, size_t formula_length); /* written: the packed bytes; MARGINS_MOST_BYTES places are always enough */
 
 /* Reads the packed bytes back into lists, which pack to the same bytes. It answers as margins_check does, and refuses lists that are too
  * short. A second field that the code does not have is 0; places behind the last instruction or output keep what they held. */

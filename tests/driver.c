@@ -1,6 +1,7 @@
-/* Runs framed cases from standard input and writes framed replies to standard output; frames.py, packing_frames.py and doubles_frames.py tell
- * the forms. Each list is allocated at exactly its length, so that a memory checker sees every step beyond it. In half of the cases of packing
- * and of doubles sentinels stand behind each list that is written instead, so that a step beyond is seen without a checker. */
+/* Runs framed cases from standard input and writes framed replies to standard output; frames.py, packing_frames.py, text_frames.py and
+ * doubles_frames.py tell the forms. Each list is allocated at exactly its length, so that a memory checker sees every step beyond it. In
+ * half of the cases of packing, of texts and of doubles sentinels stand behind each list that is written instead, so that a step beyond is
+ * seen without a checker. */
 #include "margins.h"
 
 #include <stdbool.h>
@@ -8,7 +9,7 @@
 #include <stdlib.h>
 #include <string.h>
 
-enum { CHECK, PLAIN, BALL, ADMIT, RECORDS, PACK, UNPACK, DOUBLES };
+enum { CHECK, PLAIN, BALL, ADMIT, RECORDS, PACK, UNPACK, DOUBLES, TEXT };
 enum { CODES, FIRSTS, SECONDS, OUTPUTS, PACKING_LISTS };
 enum { MOST_PARTS = 3, BEHIND = 8, BUFFER = 1 << 20 };
 
@@ -17,7 +18,7 @@ typedef struct {
     size_t length;
 } list;
 
-/* A formula that is read, and a copy of it. */
+/* A formula or a text that is read, and a copy of it. */
 typedef struct {
     uint8_t *memory, *bytes, *kept;
     size_t length;
@@ -130,7 +131,7 @@ static bool kept_behind(list lent, size_t list_number, size_t behind, holding *s
     return true;
 }
 
-/* A formula may start at any address. */
+/* A formula, or a text, may start at any address. */
 static packed take_formula(size_t number)
 {
     size_t offset = number % 8, length = take_length();
@@ -283,6 +284,24 @@ static void pack_case(size_t number)
     }
 }
 
+static void text_case(size_t number)
+{
+    int64_t scale, inputs;
+    take(&scale, sizeof scale);
+    take(&inputs, sizeof inputs);
+    packed text = take_formula(number);
+    buffer b = lend_buffer(number);
+
+    margins_packed answer = margins_pack_text(scale, inputs, text.bytes, text.length, b.bytes, b.length);
+    give(&answer, sizeof answer);
+    uint8_t intact = kept_around(&b) && same(text.bytes, text.kept, text.length);
+    give(&intact, sizeof intact);
+
+    give(b.bytes, b.length);
+    free(b.memory);
+    free_formula(text);
+}
+
 static void unpack_case(size_t number)
 {
     list lent[PACKING_LISTS];
@@ -359,6 +378,8 @@ int main(void)
             unpack_case(number);
         else if (job == DOUBLES)
             doubles_case(number);
+        else if (job == TEXT)
+            text_case(number);
         else if (job <= RECORDS)
             run_case(job, number);
         else

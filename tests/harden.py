@@ -1,4 +1,4 @@
-"""harden.py DRIVER: the C doors under valgrind on a share of the cases and on random bytes, numbers and lists; nothing may be found."""
+"""harden.py DRIVER: the C doors under valgrind on a share of the cases and on random bytes, numbers, lists, texts; nothing may be found."""
 
 import random
 import subprocess
@@ -11,12 +11,15 @@ import doubles_frames
 import frames
 import packing_cases
 import packing_frames
+import text_cases
+import text_frames
 from driver import parted
 
 EVERY = 4
 RANDOM = 10000
 RANDOM_PACKING = 4000
 RANDOM_DOUBLES = 4000
+RANDOM_TEXTS = 4000
 CHECKER = ["valgrind", "--quiet", "--error-exitcode=9", "--leak-check=full"]
 
 
@@ -52,6 +55,15 @@ def random_packing(rng):
     return packing_frames.Pack((random_number(rng), random_number(rng), *lists), rng.choice((0, 5, 6, 40, 4248)))
 
 
+def random_text(rng):
+    """Any bytes, most of them such as texts have, into a buffer of any length."""
+    size = rng.choice((0, 1, 2, 5, 9, 40, 300))
+    text = bytes(rng.choice(b"aaab11.+-*(()") if rng.random() < 0.95 else rng.randrange(256) for _ in range(size))
+    scale = rng.choice((0, 4, 30)) if rng.random() < 0.9 else packing_cases.any_number(rng)
+    inputs = rng.choice((0, 1, 2, 16)) if rng.random() < 0.9 else packing_cases.any_number(rng)
+    return text_frames.Text(scale, inputs, text, rng.choice((0, 5, 6, 40, 4248)))
+
+
 def survived(driver, form, some):
     """Whether the driver gives the replies that it should to these cases, and the checker finds nothing."""
     asked = b"".join(map(form.asked, some))
@@ -69,7 +81,9 @@ def main(driver):
     runs = list(islice(cases.all_cases(), 0, None, EVERY)) + [random_case(rng) for _ in range(RANDOM)]
     packing = list(islice(packing_cases.all_cases(), 0, None, EVERY)) + [random_packing(rng) for _ in range(RANDOM_PACKING)]
     doubles = list(islice(doubles_cases.all_cases(), 0, None, EVERY)) + [random_case(rng, ("ball",)) for _ in range(RANDOM_DOUBLES)]
-    good = [survived(driver, *some) for some in ((frames, runs), (packing_frames, packing), (doubles_frames, doubles))]
+    read = list(islice(text_cases.all_cases(), 0, None, EVERY)) + [random_text(rng) for _ in range(RANDOM_TEXTS)]
+    parts = ((frames, runs), (packing_frames, packing), (doubles_frames, doubles), (text_frames, read))
+    good = [survived(driver, *some) for some in parts]
     print(f"{good.count(True)} passed, {good.count(False)} failed")
     return 0 if all(good) else 1
 

@@ -1,5 +1,6 @@
-/* A first program with margins.h: one formula checked, run on readings, its figures given as doubles, admitted for a whole domain, packed and
- * read back; then a weight that was rounded, and a quotient. At scale 4 a unit is 1/16. The formula is x*y + x. */
+/* A first program with margins.h: one formula checked, run on readings, its figures given as doubles, admitted for a whole domain, packed
+ * from lists and from its text, and read back; then a weight that was rounded, and a quotient. At scale 4 a unit is 1/16. The formula is
+ * x*y + x. */
 #include <inttypes.h>
 #include <stdbool.h>
 #include <stdio.h>
@@ -168,6 +169,22 @@ static void pack(int64_t scale, size_t length)
         printf("pack: %" PRIu32 " bytes, %s formula\n", made.bytes, memcmp(bytes, formula, sizeof formula) ? "another" : "the same");
 }
 
+/* x is the letter a, and y the letter b. */
+static void pack_text(int64_t scale, const char *text, size_t length)
+{
+    uint8_t bytes[MARGINS_MOST_BYTES];
+    margins_packed made = margins_pack_text(scale, 2, (const uint8_t *)text, strlen(text), bytes, length);
+    if (!made.refusal) {
+        bool same = made.bytes == sizeof formula && memcmp(bytes, formula, sizeof formula) == 0;
+        printf("text %s: %" PRIu32 " bytes, %s formula\n", text, made.bytes, same ? "the same" : "another");
+        return;
+    }
+    printf("text %s: refused %" PRIu32 ", %s", text, made.refusal, margins_refusal_text(made.refusal));
+    if (made.refusal == MARGINS_REFUSED_MISPLACED || made.refusal == MARGINS_REFUSED_TOO_DEEP)
+        printf(", at byte %" PRIu64, made.place);
+    printf("\n");
+}
+
 /* The weight 0.1 is 1.6 units: as an exact constant its rounding to 2 would be lost, as a coefficient it stays in the margin. */
 static void weigh(int64_t code, int64_t margin, margins_reading x)
 {
@@ -244,6 +261,15 @@ int main(void)
     pack(4, MARGINS_MOST_BYTES);
     pack(4, sizeof formula - 1);
     pack(-1, MARGINS_MOST_BYTES);
+    pack_text(4, "a*b+a", MARGINS_MOST_BYTES);
+    pack_text(4, "a*(b-0.25)+-0.1", MARGINS_MOST_BYTES);
+    pack_text(4, "a*b+a", sizeof formula - 1);
+    pack_text(4, "a*b+", MARGINS_MOST_BYTES);
+    pack_text(4, "a * b + a", MARGINS_MOST_BYTES);
+    pack_text(4, "a*b+c", MARGINS_MOST_BYTES);
+    pack_text(4, "a*((((((((((((((((((((((((((((((((-b))))))))))))))))))))))))))))))))", MARGINS_MOST_BYTES);
+    pack_text(30, "2*a", MARGINS_MOST_BYTES);
+    pack_text(31, "a", MARGINS_MOST_BYTES);
     weigh(MARGINS_CODE_CONSTANT, 0, (margins_reading){160, 0});
     weigh(MARGINS_CODE_COEFFICIENT, 1, (margins_reading){160, 0});
     weigh(MARGINS_CODE_COEFFICIENT, -1, (margins_reading){160, 0});
@@ -253,7 +279,7 @@ int main(void)
     divide(17, (margins_reading){5898240, 65536}, (margins_reading){39321600, 0});
     unpack(MARGINS_MOST_INSTRUCTIONS);
     unpack(1);
-    for (uint32_t refusal = 0; refusal <= MARGINS_REFUSED_MAY_BE_ZERO + 1; refusal++)
+    for (uint32_t refusal = 0; refusal <= MARGINS_REFUSED_TOO_DEEP + 1; refusal++)
         printf("%" PRIu32 ": %s\n", refusal, margins_refusal_text(refusal));
     return 0;
 }

@@ -81,6 +81,11 @@ extern "C" {
         outputs: *const i64, outputs_length: usize,
         formula: *mut u8, formula_length: usize,
     ) -> Packed;
+    fn margins_pack_text(
+        scale: i64, inputs: i64,
+        text: *const u8, text_length: usize,
+        formula: *mut u8, formula_length: usize,
+    ) -> Packed;
     fn margins_unpack(
         formula: *const u8, formula_length: usize,
         codes: *mut i64, codes_length: usize,
@@ -256,6 +261,10 @@ pub fn pack(
     })
 }
 
+pub fn pack_text(scale: i64, inputs: i64, text: &[u8], formula: &mut [u8]) -> Result<usize, Refused> {
+    packed(unsafe { margins_pack_text(scale, inputs, text.as_ptr(), text.len(), formula.as_mut_ptr(), formula.len()) })
+}
+
 pub fn unpack(formula: &[u8], instructions: LentInstructions<'_>, outputs: &mut [i64]) -> Result<Formula, Refused> {
     checked(unsafe {
         margins_unpack(
@@ -283,17 +292,18 @@ mod tests {
 
     #[test]
     fn only_a_refusal_with_a_named_place_keeps_it() {
-        for number in 1..=20 {
+        for number in 1..=22 {
             let refused = told(Reply { refusal: number, outputs: 0, place: 3 }).unwrap_err();
-            let kept = [11, 14, 15, 17].contains(&number).then_some(3);
+            let kept = [11, 14, 15, 17, 18, 19].contains(&number).then_some(3);
             assert_eq!((refused.refusal.number(), refused.place), (number, kept));
+            assert_eq!(packed(Packed { refusal: number, bytes: 0, place: 3 }), Err(refused));
         }
         assert_eq!(told(Reply { refusal: 0, outputs: 5, place: 0 }), Ok(5));
     }
 
     #[test]
     fn a_later_number_is_a_refusal_and_no_panic() {
-        for number in [9, 12, 18, 255, 1 << 16, u32::MAX] {
+        for number in [9, 12, 20, 255, 1 << 16, u32::MAX] {
             let expected = Refused { refusal: Refusal::Other(number), place: None };
             assert_eq!(told(Reply { refusal: number, outputs: 0, place: u64::MAX }), Err(expected));
             assert_eq!(checked_with(number), Err(expected));

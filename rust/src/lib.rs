@@ -1,10 +1,11 @@
 //! Packed formulas run on readings, each figure with an honest margin.
 //!
 //! A formula is a string of bytes. [`check`] says whether bytes are one; [`plain`] runs it on bare readings, [`ball`] on readings with a
-//! margin each, [`ball_doubles`] as [`ball`] with its figures as doubles, [`admit`] once on a whole domain. [`pack`] makes the bytes of lists
-//! of instructions and outputs, [`unpack`] the lists of bytes. Every function may be called with any bytes, any numbers and lists of any
-//! length: it answers or refuses, and a refusal writes no output. [`Refused`] says why and, where it is about one of them, which reading or
-//! instruction. Readings, constants and results, but for those doubles, are whole counts of one unit, 2^-F, where F is the formula's scale.
+//! margin each, [`ball_doubles`] as [`ball`] with its figures as doubles, [`admit`] once on a whole domain. [`pack_text`] makes the bytes of
+//! a formula as people write it, [`pack`] those of lists of instructions and outputs, [`unpack`] the lists of bytes. Every function may be
+//! called with any bytes, any numbers and lists of any length: it answers or refuses, and a refusal writes no output. [`Refused`] says why
+//! and, where it is about one of them, which reading, instruction or byte of a text. Readings, constants and results, but for those doubles
+//! and the numbers of a text, are whole counts of one unit, 2^-F, where F is the formula's scale.
 //!
 //! The caller lends the memory: a work list needs a place for each value, an output list one for each output. [`Balls`] and [`Matryoshki`]
 //! have room for every formula, [`Doubles`] for the outputs of every formula; [`check`] tells what one formula needs. After an answer the
@@ -152,6 +153,35 @@ pub fn pack(
     scale: i64, inputs: i64, codes: &[i64], firsts: &[i64], seconds: &[i64], outputs: &[i64], formula: &mut [u8],
 ) -> Result<usize, Refused> {
     door::pack(scale, inputs, codes, firsts, seconds, outputs, formula)
+}
+
+/// Packs a formula as people write it into the first places of `formula`; the answer is how many bytes it has. Its one output is the
+/// value of the whole text.
+///
+/// A sum is products joined by `+` or `-`, a product is factors joined by `*`, both grouped from the left. A factor is a letter, a
+/// number, a minus and a factor, or a sum in parentheses; there are no spaces. The letter `a` is input 0, `b` is input 1, and so on up to
+/// `p`; only those of the inputs are allowed. A number has 1 to 9 digits in all, with an optional point between digits. It is rounded to
+/// units, ties up: where it is a whole number of units it is a [`code::CONSTANT`], else a [`code::COEFFICIENT`] with margin 1. Each
+/// number, minus and operator is one instruction, left operand before right, both before their operator. At most 32 parentheses and
+/// factors' minuses are open at once, a parenthesis up to the one that closes it, a minus up to the end of its factor.
+///
+/// Scale and inputs are tested first, then the whole text, byte by byte; then, instruction by instruction, their number and the size of
+/// each constant, and the room last. Later places of `formula` keep what they held. [`MOST_BYTES`] places are enough for every formula.
+///
+/// ```
+/// let mut formula = [0; margins::MOST_BYTES];
+/// let bytes = margins::pack_text(4, 3, "a*(b-0.25)+c".as_bytes(), &mut formula)?;
+/// let (mut work, mut output) = (margins::Balls::default(), margins::Balls::default());
+/// margins::ball(&formula[..bytes], &[24, 12, -5], &[1, 1, 0], work.lent(), output.lent())?;
+/// assert_eq!((output.centres[0], output.margins[0]), (7, 3));
+///
+/// let refused = margins::pack_text(4, 3, "a * b".as_bytes(), &mut formula).unwrap_err();
+/// assert_eq!((refused.refusal.number(), refused.place), (18, Some(1)));
+/// assert_eq!(refused.to_string(), "the text has a byte that cannot stand there, or ends too early (refused 18), at byte 1");
+/// # Ok::<(), margins::Refused>(())
+/// ```
+pub fn pack_text(scale: i64, inputs: i64, text: &[u8], formula: &mut [u8]) -> Result<usize, Refused> {
+    door::pack_text(scale, inputs, text, formula)
 }
 
 /// Reads a formula back into lists, which [`pack`] to the same bytes; the answer is that of [`check`].

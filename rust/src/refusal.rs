@@ -38,6 +38,11 @@ pub enum Refusal {
     /// 17: a reciprocal of what may be 0: its operand is 0, or its margin, with the stray in [`admit`](crate::admit), reaches 0. Keep it away
     /// from 0, or shrink the margins or the domain, so that |centre| is over margin plus stray. The place is the instruction, from 0.
     MayBeZero,
+    /// 18: no formula's text that begins as this one has this byte there, or the text ends too early. The place is the byte, from 0, or the
+    /// text's length where it ends too early; what stands before it is good.
+    Misplaced,
+    /// 19: over 32 parentheses and minuses of the text are open at once. The place is the byte, from 0, that opens the 33rd.
+    TooDeep,
     /// A number that this version has no name for. A later one may name it: rather compare, or ask [`Refusal::number`].
     Other(u32),
 }
@@ -67,6 +72,8 @@ impl Refusal {
             15 => Refusal::ReadingTooLarge,
             16 => Refusal::ReciprocalScale,
             17 => Refusal::MayBeZero,
+            18 => Refusal::Misplaced,
+            19 => Refusal::TooDeep,
             _ => Refusal::Other(number),
         })
     }
@@ -76,6 +83,7 @@ impl Refusal {
         match self.number() {
             11 | 17 => Some("instruction"),
             14 | 15 => Some("reading"),
+            18 | 19 => Some("byte"),
             _ => None,
         }
     }
@@ -99,12 +107,14 @@ impl Refusal {
             Refusal::ReadingTooLarge => (15, "a reading's |centre| + stray + margin is over 2147483647"),
             Refusal::ReciprocalScale => (16, "a reciprocal in a formula whose scale is over 16"),
             Refusal::MayBeZero => (17, "a reciprocal of what may be 0"),
+            Refusal::Misplaced => (18, "the text has a byte that cannot stand there, or ends too early"),
+            Refusal::TooDeep => (19, "over 32 parentheses and minuses of the text are open at once"),
             Refusal::Other(number) => (number, "for a reason that this version has no words for"),
         }
     }
 }
 
-// By the number, so that `Refusal::Other(18)` stays equal to what the library gives once a later version names 18.
+// By the number, so that `Refusal::Other(20)` stays equal to what the library gives once a later version names 20.
 impl PartialEq for Refusal {
     fn eq(&self, other: &Self) -> bool {
         self.number() == other.number()
@@ -144,7 +154,8 @@ pub struct Refused {
     /// Why.
     pub refusal: Refusal,
     /// Where, from 0: with [`Refusal::OutOfReach`] and [`Refusal::MayBeZero`] the instruction, with [`Refusal::NegativeMargin`] and
-    /// [`Refusal::ReadingTooLarge`] the reading. The other refusals of this version have no place.
+    /// [`Refusal::ReadingTooLarge`] the reading, with [`Refusal::Misplaced`] and [`Refusal::TooDeep`] the byte of the text. The other
+    /// refusals of this version have no place.
     pub place: Option<usize>,
 }
 

@@ -147,8 +147,9 @@ fn each_number_has_one_refusal_and_words_of_its_own() {
     assert_eq!(Refusal::numbered(0), None);
     assert_eq!(Refusal::Other(11), Refusal::OutOfReach);
     assert_eq!((Refusal::Other(16), Refusal::Other(17)), (Refusal::ReciprocalScale, Refusal::MayBeZero));
-    assert_ne!(Refusal::Other(18), Refusal::OutOfReach);
-    let numbers = [1, 2, 3, 4, 5, 6, 7, 8, 10, 11, 13, 14, 15, 16, 17];
+    assert_eq!((Refusal::Other(18), Refusal::Other(19)), (Refusal::Misplaced, Refusal::TooDeep));
+    assert_ne!(Refusal::Other(20), Refusal::OutOfReach);
+    let numbers = [1, 2, 3, 4, 5, 6, 7, 8, 10, 11, 13, 14, 15, 16, 17, 18, 19];
     let words = numbers.map(|number| Refusal::numbered(number).unwrap().to_string());
     for (number, said) in numbers.into_iter().zip(&words) {
         assert_eq!(Refusal::numbered(number).unwrap().number(), number);
@@ -159,7 +160,7 @@ fn each_number_has_one_refusal_and_words_of_its_own() {
 
 #[test]
 fn a_later_number_is_kept_and_told() {
-    for number in [9, 12, 18, 4096, u32::MAX] {
+    for number in [9, 12, 20, 4096, u32::MAX] {
         let refusal = Refusal::numbered(number).unwrap();
         assert!(matches!(refusal, Refusal::Other(n) if n == number));
         assert_eq!(refusal.number(), number);
@@ -181,6 +182,10 @@ fn the_words_say_where() {
     assert_eq!(large, "a reading's |centre| + stray + margin is over 2147483647 (refused 15), at reading 15");
     let count = Refused::from(Refusal::ReadingCount).to_string();
     assert_eq!(count, "the number of readings isn't that of the inputs (refused 13)");
+    let misplaced = at(Refusal::Misplaced, 0).to_string();
+    assert_eq!(misplaced, "the text has a byte that cannot stand there, or ends too early (refused 18), at byte 0");
+    let deep = at(Refusal::TooDeep, 32).to_string();
+    assert_eq!(deep, "over 32 parentheses and minuses of the text are open at once (refused 19), at byte 32");
     assert_eq!(check(&[]).unwrap_err().to_string(), "the bytes end inside a field (refused 1)");
 }
 

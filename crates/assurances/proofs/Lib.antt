@@ -4,3 +4,4 @@ pub mod Exactly
 pub mod ReadBack
 pub mod InPrint
 pub mod OnChart
+pub mod OfTexts

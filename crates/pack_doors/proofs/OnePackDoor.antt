@@ -4,7 +4,7 @@ use mathlib.Core.List.{List}
 use Prim.Native.Nat.{ℕ}
 use Rattle.packing.specs.Raw.{RawFormula, Parts}
 use Rattle.replies.specs.declared.MarginsFormula.{MarginsFormula}
-use Rattle.pack_doors.specs.declared.MarginsPacked.{MarginsPacked}
+use Rattle.replies.specs.declared.MarginsPacked.{MarginsPacked}
 use Rattle.pack_doors.specs.PackDoors.{PackDoor, UnpackDoor}
 
 pub pack-door-one-outcome : {given : RawFormula} {old new₁ new₂ : List ℕ} {r t : MarginsPacked} → PackDoor given old new₁ r

@@ -20,8 +20,8 @@ use Rattle.packing.specs.Raw.{RawFormula, Parts, handed}
 use Rattle.packing.specs.PackAnswers.{Packs, Unpacks}
 use Rattle.packing.proofs.Left.{packed-bytes-few, read-limits}
 use Rattle.replies.specs.declared.MarginsFormula.{MarginsFormula}
-use Rattle.replies.specs.Doors.{margins-formula, CheckedInLimits}
-use Rattle.pack_doors.specs.PackDoors.{margins-packed, PackDoor, UnpackDoor}
+use Rattle.replies.specs.Doors.{margins-formula, margins-packed, CheckedInLimits}
+use Rattle.pack_doors.specs.PackDoors.{PackDoor, UnpackDoor}
 
 pub bytes-fit : {given : RawFormula} {old new : List ℕ} {q : Reply} {n : ℕ} → Packs given old new q → q ≡ Done n → n < 2 ^ 32
 bytes-fit {given} {old} {new} p e = omega (arith, packed-bytes-few (subst (Packs given old new) e p))

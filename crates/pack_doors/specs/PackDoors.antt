@@ -4,19 +4,13 @@ use mathlib.Core.List.{List}
 use Prim.Native.Nat.{ℕ}
 use lib.ListN.{length}
 use Rattle.lists.specs.Over.{over}
-use Rattle.refusals.specs.Said.{Said, answered, refuses}
 use Rattle.packing.specs.Raw.{RawFormula, Parts}
 use Rattle.packing.specs.Packing.{pack-into}
 use Rattle.packing.specs.Unpacking.{unpack-into}
 use Rattle.packing.specs.PackAnswers.{packed-said, packed-front, unpacked-header, Unpacks}
 use Rattle.replies.specs.declared.MarginsFormula.{MarginsFormula}
-use Rattle.replies.specs.Doors.{margins-formula}
-use Rattle.pack_doors.specs.declared.MarginsPacked.{MarginsPacked}
-
--- refusal 0 is none
-abbrev pub margins-packed : Said → MarginsPacked
-margins-packed (answered n) = record { refusal = 0; bytes = n; place = 0 }
-margins-packed (refuses n k) = record { refusal = n; bytes = 0; place = k }
+use Rattle.replies.specs.declared.MarginsPacked.{MarginsPacked}
+use Rattle.replies.specs.Doors.{margins-formula, margins-packed}
 
 pub record PackDoor (given : RawFormula) (old new : List ℕ) (r : MarginsPacked) : Type 0 where
   pub tells : r ≡ margins-packed (packed-said (pack-into (length old) given))

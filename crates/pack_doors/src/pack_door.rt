@@ -1,10 +1,10 @@
 // The packer for C.
 ghost use Rattle.packing.specs.Raw.{parts, handed};
 ghost use Rattle.pack_doors.specs.PackDoors.{PackDoor};
-use crate::MarginsPacked;
 use packer::pack;
 use refusals::Reply;
 use refusals::number_of;
+use replies::MarginsPacked;
 
 #[no_mangle]
 pub extern "C" fn margins_pack(

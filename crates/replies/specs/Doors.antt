@@ -12,11 +12,16 @@ use Rattle.checking.specs.declared.Checked.{Checked}
 use Rattle.checking.specs.declared.Checked.the-variants.{Formula, Refused}
 use Rattle.replies.specs.declared.MarginsReply.{MarginsReply}
 use Rattle.replies.specs.declared.MarginsFormula.{MarginsFormula}
+use Rattle.replies.specs.declared.MarginsPacked.{MarginsPacked}
 
 -- refusal 0 is none
 abbrev pub margins-reply : Said → MarginsReply
 margins-reply (answered n) = record { refusal = 0; outputs = n; place = 0 }
 margins-reply (refuses n k) = record { refusal = n; outputs = 0; place = k }
+
+abbrev pub margins-packed : Said → MarginsPacked
+margins-packed (answered n) = record { refusal = 0; bytes = n; place = 0 }
+margins-packed (refuses n k) = record { refusal = n; bytes = 0; place = k }
 
 abbrev pub margins-formula : Answer Header → MarginsFormula
 margins-formula (value h) =

@@ -29,6 +29,14 @@ pub struct MarginsFormula {
     pub instructions: u32,
 }
 
+// The number of the refusal, or 0; how many bytes were written; the refusal's place.
+#[repr(C)]
+pub struct MarginsPacked {
+    pub refusal: u32,
+    pub bytes: u32,
+    pub place: u64,
+}
+
 fn refused(number: u32, place: usize) -> MarginsReply
     ensures { λ x. ⌜ x ≡ record { refusal = number; outputs = 0; place = place } ⌝ }
 {

@@ -37,46 +37,11 @@ use Rattle.expressions.proofs.Constants.{ordered}
 use Rattle.expression_parser.specs.declared.Made.{Made}
 use Rattle.expression_parser.specs.Words.{word-of}
 use Rattle.text_packer.specs.WordNumbers.{all-fit}
-use Rattle.text_packer.specs.TextPacking.{scale-and-inputs, parsed-answer, instructions-tested, handed-over, instructions-packed, text-into}
-use Rattle.text_packer.specs.TextPacking.{text-said, text-front, PacksText, Packable, words-parts, Listable}
+use Rattle.text_packing.specs.TextPacking.{instructions-tested, handed-over, text-into, text-said, text-front, PacksText}
+use Rattle.text_packing.proofs.Stepwise.{into-parsed, said-elsewhere, front-elsewhere, text-refuses}
+use Rattle.text_packer.specs.WordLists.{Packable, words-parts, Listable}
 use Rattle.text_packer.proofs.Instructions.{Early, early}
 use Rattle.text_packer.proofs.Listed.{AllPlain, plain-front, words-taken, handed-words, tested-few, tested-many}
-
--- ---- the answer, step by step
-
-module _ (room : ℕ) (F m : ℤ) (s : List ℕ) where
-  pub into-untested : {n : ℕ} → scale-and-inputs F m ≡ refused n → text-into room F m s ≡ places.refused-at n 0
-  unfolding text-into
-  into-untested e =
-      ap
-      (λ a. then (elsewhere a)
-      (λ u. then (parsed-answer (parse (natAbs m) open-at-once s))
-      (λ t. elsewhere (instructions-packed room F m (compiled (natAbs F) t (natAbs m))))))
-      e
-
-  pub into-parsed : {p : Parsed} → scale-and-inputs F m ≡ value tt → parse (natAbs m) open-at-once s ≡ p
-      → text-into room F m s ≡ then (parsed-answer p) (λ t. elsewhere (instructions-packed room F m (compiled (natAbs F) t (natAbs m))))
-  unfolding text-into
-  into-parsed e f =
-      ap
-      (λ a. then (elsewhere a)
-      (λ u. then (parsed-answer (parse (natAbs m) open-at-once s))
-      (λ t. elsewhere (instructions-packed room F m (compiled (natAbs F) t (natAbs m))))))
-      e
-      ∙ ap (λ q. then (parsed-answer q) (λ t. elsewhere (instructions-packed room F m (compiled (natAbs F) t (natAbs m))))) f
-
-said-elsewhere : (a : Answer (List ℕ)) → text-said (elsewhere a) ≡ packed-said a
-said-elsewhere (value s) = refl
-said-elsewhere (refused n) = refl
-
-front-elsewhere : (a : Answer (List ℕ)) → text-front (elsewhere a) ≡ packed-front a
-front-elsewhere (value s) = refl
-front-elsewhere (refused n) = refl
-
--- a refusal, and the buffer as it was
-pub text-refuses : {F m : ℤ} {s old : List ℕ} {r : Refusal} {k : ℕ} → text-into (length old) F m s ≡ places.refused-at (refusal-number r) k
-    → PacksText F m s old old (reply.Refused r k)
-text-refuses {old = old} e = record { says = sym (ap text-said e); writes = sym (ap (λ a. over (text-front a) old) e) }
 
 -- ---- a text that was read
 

@@ -3,3 +3,4 @@ pub mod Numbers
 pub mod Instructions
 pub mod Listed
 pub mod Answered
+pub mod Started

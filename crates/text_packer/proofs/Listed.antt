@@ -27,7 +27,8 @@ use Rattle.packing.specs.PackAnswers.{Packs}
 use Rattle.expressions.specs.Compiled.{constant-fits, Compiled}
 use Rattle.expression_parser.specs.Words.{word-of, Keeps}
 use Rattle.text_packer.specs.WordNumbers.{number-in, column-of, Lists, word-fits, all-fit}
-use Rattle.text_packer.specs.TextPacking.{instructions-tested, handed-over, words-parts, Listable, Fronted, PacksFront}
+use Rattle.text_packing.specs.TextPacking.{instructions-tested, handed-over}
+use Rattle.text_packer.specs.WordLists.{words-parts, Listable, Fronted, PacksFront}
 use Rattle.text_packer.proofs.Instructions.{Plain, Early, Read, read-word}
 
 -- ---- the first words are those of the first instructions

@@ -1,3 +1,3 @@
--- Request h: a text packed, and the words that its instructions are kept in.
+-- The words that a text's instructions are kept in.
 pub mod WordNumbers
-pub mod TextPacking
+pub mod WordLists

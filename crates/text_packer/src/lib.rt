@@ -1,12 +1,16 @@
-// The instructions of a text that was read: their constants and their number are tested, and the packer writes them.
+// A text packed: the scale and the number of inputs are tested, the text is read, then its instructions' constants and
+// their number, and the packer writes them.
 ghost use mathlib.Core.Path.{_≡_};
 ghost use Prim.Native.Nat.{_≤_};
 ghost use lib.ListN.{length, take};
 ghost use Rattle.text_packer.specs.WordNumbers.{first-in, second-in, NumberIn, Lists, word-fits, all-fit};
-ghost use Rattle.text_packer.specs.TextPacking.{Fronted, PacksFront, Listable, words-parts, Packable, PacksText};
+ghost use Rattle.text_packer.specs.WordLists.{Fronted, PacksFront, Listable, words-parts, Packable};
+ghost use Rattle.text_packing.specs.TextPacking.{PacksText};
 ghost use Rattle.packing.specs.Raw.{handed};
 ghost use Rattle.packing.specs.PackAnswers.{Packs};
 use expression_parser::Made;
+use expression_parser::Part;
+use expression_parser::parse;
 use packer::pack;
 use refusals::Refusal;
 use refusals::Reply;
@@ -165,4 +169,27 @@ fn pack_words(
         return pack_lists(scale, inputs, made.value, count, words, out);
     }
     Reply::Refused(Refusal::Constant, 0)
+}
+
+// The packed bytes of a text in front of `out` and how many they are, or the refusal and its place.
+pub fn pack_text(scale: i64, inputs: i64, text: &[u8], out: &mut [u8]) -> Reply
+    ensures { λ r. ⌜ PacksText scale inputs (now (text .entry)) (now (out .entry)) (now (out .exit)) r ⌝ }
+{
+    if scale < 0 {
+        return Reply::Refused(Refusal::Scale, 0);
+    }
+    if 30 < scale {
+        return Reply::Refused(Refusal::Scale, 0);
+    }
+    if inputs < 0 {
+        return Reply::Refused(Refusal::Count, 0);
+    }
+    if 16 < inputs {
+        return Reply::Refused(Refusal::Count, 0);
+    }
+    let mut words = [0u64; 512];
+    match parse(text, scale as u32, inputs as usize, &mut words) {
+        Part::Refused(r, p) => Reply::Refused(r, p),
+        Part::Made(m) => pack_words(scale, inputs, m, text, &words, out),
+    }
 }

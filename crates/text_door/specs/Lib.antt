@@ -1,0 +1,2 @@
+-- What C sees of packing a text.
+pub mod TextDoors

@@ -1,0 +1,3 @@
+-- Request h: a text packed.
+pub mod TextPacking
+pub mod GivenInText
