@@ -1,5 +1,5 @@
-/* The four jobs, the ball job with doubles, packing from lists and from a text, and reading back by hand in C, with the signatures of
- * margins.h: what the proved library is measured against. */
+/* The four jobs, the ball job with doubles, packing from lists and from a text, reading back, and decimal numbers out and in by hand in C,
+ * with the signatures of margins.h: what the proved library is measured against. */
 #ifndef BASELINE_H
 #define BASELINE_H
 
@@ -14,5 +14,7 @@ __typeof__(margins_admit) baseline_admit;
 __typeof__(margins_pack) baseline_pack;
 __typeof__(margins_pack_text) baseline_pack_text;
 __typeof__(margins_unpack) baseline_unpack;
+__typeof__(margins_to_decimal) baseline_to_decimal;
+__typeof__(margins_from_decimal) baseline_from_decimal;
 
 #endif

@@ -7,4 +7,6 @@
 #define margins_pack baseline_pack
 #define margins_pack_text baseline_pack_text
 #define margins_unpack baseline_unpack
+#define margins_to_decimal baseline_to_decimal
+#define margins_from_decimal baseline_from_decimal
 #define WITHOUT_RECORDS

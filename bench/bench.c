@@ -10,12 +10,13 @@
 #include <string.h>
 #include <time.h>
 
-enum { CHECK, PLAIN, BALL, ADMIT, PACK, UNPACK, DOUBLES, TEXT, JOBS };
+enum { CHECK, PLAIN, BALL, ADMIT, PACK, UNPACK, DOUBLES, TEXT, FORMULA_JOBS, TO_DECIMAL = FORMULA_JOBS, FROM_DECIMAL, JOBS };
 enum { BASELINE, LIBRARY, SIDES };
 enum { ROUNDS = 501, BATCH_NANOSECONDS = 20000, TRIED_RUNS = 100 };
 enum { VALUES = MARGINS_MOST_VALUES, OUTPUTS = MARGINS_MOST_OUTPUTS, STEPS = MARGINS_MOST_INSTRUCTIONS, BYTES = MARGINS_MOST_BYTES };
+enum { FORMULAS = 5, DECIMAL_BYTES = MARGINS_MOST_DECIMAL_BYTES };
 
-static const char *const job_names[JOBS] = {"check", "plain", "ball", "admit", "pack", "unpack", "doubles", "text"};
+static const char *const job_names[JOBS] = {"check", "plain", "ball", "admit", "pack", "unpack", "doubles", "text", "dec.out", "dec.in"};
 static const uint32_t growing[] = {16, 64, 256, 512};
 
 /* What a run leaves, cleared before two runs are compared. */
@@ -26,6 +27,9 @@ static struct {
     int64_t codes[STEPS], firsts[STEPS], seconds[STEPS];
     uint8_t bytes[BYTES];
     double double_centres[OUTPUTS], double_margins[OUTPUTS];
+    int64_t decimal_centres[BALLS], read_centres[BALLS], read_margins[BALLS];
+    uint64_t decimal_margins[BALLS];
+    uint8_t decimal_texts[BALLS][DECIMAL_BYTES];
 } left;
 
 typedef uint32_t run(const workload *w);
@@ -69,6 +73,22 @@ typedef uint32_t run(const workload *w);
     static uint32_t side##_text_run(const workload *w)                                                                                   \
     {                                                                                                                                    \
         return side##_pack_text(w->scale, w->inputs, (const uint8_t *)w->text, w->text_length, left.bytes, BYTES).refusal;               \
+    }                                                                                                                                    \
+    static uint32_t side##_to_decimal_run(const workload *w)                                                                             \
+    {                                                                                                                                    \
+        uint32_t refusals = 0;                                                                                                           \
+        for (int i = 0; i < BALLS; i++)                                                                                                  \
+            refusals |= side##_to_decimal(w->scale, w->decimals, w->middles[i], (uint64_t)w->margins[i], &left.decimal_centres[i], 1,    \
+                                          &left.decimal_margins[i], 1, left.decimal_texts[i], DECIMAL_BYTES).refusal;                    \
+        return refusals;                                                                                                                 \
+    }                                                                                                                                    \
+    static uint32_t side##_from_decimal_run(const workload *w)                                                                           \
+    {                                                                                                                                    \
+        uint32_t refusals = 0;                                                                                                           \
+        for (int i = 0; i < BALLS; i++)                                                                                                  \
+            refusals |= side##_from_decimal(w->scale, w->numbers[i].text, w->numbers[i].length, w->doubts[i].text, w->doubts[i].length,  \
+                                            &left.read_centres[i], 1, &left.read_margins[i], 1).refusal;                                 \
+        return refusals;                                                                                                                 \
     }
 
 RUNS(baseline)
@@ -76,9 +96,9 @@ RUNS(margins)
 
 static run *const runs[SIDES][JOBS] = {
     {baseline_check_run, baseline_plain_run, baseline_ball_run, baseline_admit_run, baseline_pack_run, baseline_unpack_run,
-     baseline_doubles_run, baseline_text_run},
+     baseline_doubles_run, baseline_text_run, baseline_to_decimal_run, baseline_from_decimal_run},
     {margins_check_run, margins_plain_run, margins_ball_run, margins_admit_run, margins_pack_run, margins_unpack_run,
-     margins_doubles_run, margins_text_run},
+     margins_doubles_run, margins_text_run, margins_to_decimal_run, margins_from_decimal_run},
 };
 
 typedef struct {
@@ -93,7 +113,7 @@ static void fail(const char *why, const workload *w, int job)
 
 static bool has(const workload *w, int job)
 {
-    return job != TEXT || w->text_length;
+    return job >= FORMULA_JOBS ? w->numbers[0].length : job == TEXT ? w->text_length : w->length;
 }
 
 /* The header's count of the formula that was packed last. */
@@ -177,39 +197,57 @@ static medians measure(const workload *w)
     return found;
 }
 
-static void heading(const char *words)
+static void heading(const char *words, int first, int end)
 {
     printf("%-24s", words);
-    for (int job = 0; job < JOBS; job++)
+    for (int job = first; job < end; job++)
         printf("%8s", job_names[job]);
 }
 
-static void ratios(const workload *w, int count)
+static void print_ratios(const workload *w, const medians *found, int first, int end)
 {
-    heading("library over baseline");
+    printf("%-24s", w->name);
+    for (int job = first; job < end; job++)
+        if (has(w, job))
+            printf("%8.2f", found->nanoseconds[LIBRARY][job] / found->nanoseconds[BASELINE][job]);
+        else
+            printf("%8s", "-");
+}
+
+static void ratios(const workload *w)
+{
+    heading("library over baseline", 0, FORMULA_JOBS);
     printf("%24s\n", "library's ball/plain");
-    for (int i = 0; i < count; i++) {
+    for (int i = 0; i < FORMULAS; i++) {
         medians found = measure(&w[i]);
-        printf("%-24s", w[i].name);
-        for (int job = 0; job < JOBS; job++)
-            if (has(&w[i], job))
-                printf("%8.2f", found.nanoseconds[LIBRARY][job] / found.nanoseconds[BASELINE][job]);
-            else
-                printf("%8s", "-");
+        print_ratios(&w[i], &found, 0, FORMULA_JOBS);
         printf("%24.2f\n", found.nanoseconds[LIBRARY][BALL] / found.nanoseconds[LIBRARY][PLAIN]);
+    }
+}
+
+static void decimal_ratios(const workload *w)
+{
+    heading("library over baseline", FORMULA_JOBS, JOBS);
+    printf("%24s\n", "library's ns for one");
+    for (int i = 0; i < DECIMAL_KINDS; i++) {
+        medians found = measure(&w[i]);
+        print_ratios(&w[i], &found, FORMULA_JOBS, JOBS);
+        for (int job = FORMULA_JOBS; job < JOBS; job++)
+            printf("%12.1f", found.nanoseconds[LIBRARY][job] / BALLS);
+        printf("\n");
     }
 }
 
 static void growth(void)
 {
-    heading("ns an instruction");
+    heading("ns an instruction", 0, FORMULA_JOBS);
     printf("  (library, then baseline)\n");
     for (size_t i = 0; i < sizeof growing / sizeof *growing; i++) {
         workload w = mix(growing[i]);
         medians found = measure(&w);
         for (int side = SIDES; side-- > 0;) {
             printf("%-24s", side == LIBRARY ? w.name : "");
-            for (int job = 0; job < JOBS; job++)
+            for (int job = 0; job < FORMULA_JOBS; job++)
                 printf("%8.1f", found.nanoseconds[side][job] / w.instructions);
             printf("\n");
         }
@@ -218,10 +256,11 @@ static void growth(void)
 
 int main(int arguments, char **argument)
 {
-    const workload w[] = {dot_product(), polynomial(), mix(512), coefficients(), reciprocals()};
-    const int all = sizeof w / sizeof *w;
+    const workload w[] = {dot_product(), polynomial(), mix(512), coefficients(), reciprocals(), decimals(0), decimals(1), decimals(2)};
+    const int all = FORMULAS + DECIMAL_KINDS;
     if (arguments == 1) {
-        ratios(w, all);
+        ratios(w);
+        decimal_ratios(w + FORMULAS);
         growth();
         return 0;
     }

@@ -4,8 +4,10 @@ import re
 import subprocess
 import sys
 
-JOBS = ("check", "plain", "ball", "admit", "pack", "unpack", "doubles", "text")
-WORKLOADS = ("dot product of 8", "polynomial of degree 15", "mix of 512", "coefficients, degree 21", "reciprocals, 8 quotients")
+JOBS = ("check", "plain", "ball", "admit", "pack", "unpack", "doubles", "text", "dec.out", "dec.in")
+FORMULAS = ("dot product of 8", "polynomial of degree 15", "mix of 512", "coefficients, degree 21", "reciprocals, 8 quotients")
+WORKLOADS = (*FORMULAS, "hours, 1 decimal", "hours, 4 decimals", "most digits")
+OF_FORMULAS = JOBS[:8]
 BASELINE, LIBRARY = 0, 1
 RUNS = 100
 WITHOUT_TEXT = ("reciprocals, 8 quotients",)
@@ -22,16 +24,22 @@ def instructions(bench, workload, side, job):
     return (total(bench, workload, side, job, RUNS) - total(bench, workload, side, job, 0)) / RUNS
 
 
-def ratio(bench, workload, job):
-    if JOBS[job] == "text" and WORKLOADS[workload] in WITHOUT_TEXT:
+def ratio(bench, name, job):
+    if job == "text" and name in WITHOUT_TEXT:
         return "-"
-    return f"{instructions(bench, workload, LIBRARY, job) / instructions(bench, workload, BASELINE, job):.2f}"
+    numbers = [instructions(bench, WORKLOADS.index(name), side, JOBS.index(job)) for side in (LIBRARY, BASELINE)]
+    return f"{numbers[0] / numbers[1]:.2f}"
+
+
+def table(bench, names, jobs):
+    print(f"{'instructions':<24}" + "".join(f"{job:>8}" for job in jobs))
+    for name in names:
+        print(f"{name:<24}" + "".join(f"{ratio(bench, name, job):>8}" for job in jobs))
 
 
 def main(bench):
-    print(f"{'instructions':<24}" + "".join(f"{job:>8}" for job in JOBS))
-    for workload, name in enumerate(WORKLOADS):
-        print(f"{name:<24}" + "".join(f"{ratio(bench, workload, job):>8}" for job in range(len(JOBS))))
+    table(bench, FORMULAS, OF_FORMULAS)
+    table(bench, WORKLOADS[len(FORMULAS) :], JOBS[len(OF_FORMULAS) :])
 
 
 if __name__ == "__main__":

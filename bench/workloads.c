@@ -2,6 +2,7 @@
 
 #include "texts.h"
 
+#include <inttypes.h>
 #include <stdio.h>
 
 enum { CONSTANT, NEGATE, ADD, SUBTRACT, MULTIPLY, COEFFICIENT, RECIPROCAL };
@@ -167,4 +168,40 @@ workload mix(uint32_t instructions)
     }
     write_mix(&p.made);
     return finish(&p);
+}
+
+/* A count of 10^-behind. */
+static number written(const char *sign, uint32_t count, int behind)
+{
+    uint32_t parts = 1;
+    for (int i = 0; i < behind; i++)
+        parts *= 10;
+    number n;
+    n.length = (size_t)snprintf((char *)n.text, sizeof n.text, "%s%" PRIu32 ".%0*" PRIu32, sign, count / parts, behind, count % parts);
+    return n;
+}
+
+/* Every second centre and number is below 0. */
+workload decimals(int kind)
+{
+    /* What each is below: centre and margin in units, number and margin in counts. */
+    static const struct {
+        const char *name;
+        uint32_t scale, decimals, centre, margin, number, doubt;
+        int behind;
+    } kinds[DECIMAL_KINDS] = {
+        {"hours, 1 decimal", 4, 1, 400, 16, 250, 10, 1},
+        {"hours, 4 decimals", 20, 4, 25 << 20, 1 << 16, 250000, 500, 4},
+        {"most digits", 0, 9, 1 << 30, 1 << 30, 999999999, 999999999, 3},
+    };
+    packing p = {.made = {.scale = kinds[kind].scale, .decimals = kinds[kind].decimals}, .seed = 1};
+    snprintf(p.made.name, sizeof p.made.name, "%s", kinds[kind].name);
+    for (uint32_t i = 0; i < BALLS; i++) {
+        int64_t centre = any(&p, kinds[kind].centre);
+        p.made.middles[i] = i % 2 ? -centre : centre;
+        p.made.margins[i] = any(&p, kinds[kind].margin);
+        p.made.numbers[i] = written(i % 2 ? "-" : "", any(&p, kinds[kind].number), kinds[kind].behind);
+        p.made.doubts[i] = written("", any(&p, kinds[kind].doubt), kinds[kind].behind);
+    }
+    return p.made;
 }

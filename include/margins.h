@@ -1,4 +1,5 @@
-/* Packed formulas run on readings, each figure with an honest margin; and packed from lists or from a text, and read back into lists.
+/* Packed formulas run on readings, each figure with an honest margin; and packed from lists or from a text, and read back into lists. A
+ * figure is printed as a decimal number, and a decimal number is read as a reading, with the rounding in the margin.
  *
  * Every function may be called with any bytes, any numbers and lists of any length: it answers or refuses, and a refusal
  * writes no output. Nothing has to be checked first. A list is a pointer and the number of its places. Where that number is 0 the
@@ -6,7 +7,7 @@
  * that is all that C cannot promise by itself.
  *
  * Readings, constants and results are whole counts of one unit, 2^-F, where F is the formula's scale; margins_ball_doubles alone gives
- * results as doubles, and the numbers of a text are decimal numbers.
+ * results as doubles. The numbers of a text, and those of margins_to_decimal and margins_from_decimal, are decimal numbers.
  *
  * C sees lists of one type as one and the same: each parameter says which list it is. Where a form with records is offered, a centre
  * cannot be swapped with its margin.
@@ -48,10 +49,13 @@ extern "C" {
 #define MARGINS_MOST_VALUES 528
 /* The longest formula: 32 bits of header, 512 coefficients of 66 bits, 16 outputs of 10 bits. */
 #define MARGINS_MOST_BYTES 4248
+/* The longest text of a ball: a minus, two numbers of 10 digits before the point and 9 behind it, and 4 bytes between them. */
+#define MARGINS_MOST_DECIMAL_BYTES 45
 
 /* Why there is no answer. A refusal is one of these numbers, 0 is none; a later library may give further ones. 9 is not given any more.
  * They are tested in this order: 1 to 8 and 16 field by field, 13 to 15, 10, then instruction by instruction 17 and 11; of a text 3 and 4,
- * then 18 and 19 byte by byte, then instruction by instruction 4 and 7, then 10. Where nothing is said of `place` it is 0. */
+ * then 18 and 19 byte by byte, then instruction by instruction 4 and 7, then 10; of a ball to be printed 3, 27, 26, then 10; of a decimal
+ * number with its margin 3, 24, 25, 26, then 10. Where nothing is said of `place` it is 0. */
 enum {
     MARGINS_DONE = 0,
     MARGINS_REFUSED_ENDED = 1,              /* the bytes end inside a field */
@@ -67,6 +71,11 @@ enum {
     MARGINS_REFUSED_MISPLACED = 18,         /* no formula's text that begins as this one has this byte at offset `place`; or, where that is
                                              * the text's length, the text ends too early. What stands before it is good */
     MARGINS_REFUSED_TOO_DEEP = 19,          /* the byte at offset `place` is the 33rd parenthesis or factor's minus that is open at once */
+    MARGINS_REFUSED_NUMBER_TEXT = 24,       /* no decimal number that begins as this one has this byte at offset `place`; or, where that is
+                                             * the text's length, the text ends too early. What stands before it is good */
+    MARGINS_REFUSED_MARGIN_TEXT = 25,       /* the same of the margin's text, which has no minus; `place` is an offset in that text */
+    MARGINS_REFUSED_BALL_REACH = 26,        /* a ball that is printed or read has |centre| + margin over 2147483647 units */
+    MARGINS_REFUSED_DECIMALS = 27,          /* the number of decimals is outside 0 to 9 */
     MARGINS_REFUSED_RECIPROCAL_SCALE = 16,  /* a reciprocal in a formula whose scale is over 16: pack it with a scale of 0 to 16 */
     MARGINS_REFUSED_READING_COUNT = 13,     /* a list of readings has more or fewer than the formula has inputs: margins_check tells
                                              * how many those are */
@@ -102,6 +111,10 @@ MARGINS_IN_HEADER const char *margins_refusal_text(uint32_t refusal)
     case MARGINS_REFUSED_PADDING: return "a padding bit is set or a byte follows";
     case MARGINS_REFUSED_MISPLACED: return "the text has a byte that cannot stand there, or ends too early";
     case MARGINS_REFUSED_TOO_DEEP: return "over 32 parentheses and minuses of the text are open at once";
+    case MARGINS_REFUSED_NUMBER_TEXT: return "the number's text has a byte that cannot stand there, or ends too early";
+    case MARGINS_REFUSED_MARGIN_TEXT: return "the margin's text has a byte that cannot stand there, or ends too early";
+    case MARGINS_REFUSED_BALL_REACH: return "the ball's |centre| + margin is over 2147483647 units";
+    case MARGINS_REFUSED_DECIMALS: return "the number of decimals is outside 0 to 9";
     case MARGINS_REFUSED_RECIPROCAL_SCALE: return "a reciprocal in a formula whose scale is over 16";
     case MARGINS_REFUSED_READING_COUNT: return "the number of readings isn't that of the inputs";
     case MARGINS_REFUSED_NEGATIVE_MARGIN: return "a reading has a negative stray or margin";
@@ -116,7 +129,8 @@ MARGINS_IN_HEADER const char *margins_refusal_text(uint32_t refusal)
 
 /* refusal 0: that many outputs were written, and place is 0. Else no output was written and outputs is 0; place says where, counted from
  * 0: the reading with MARGINS_REFUSED_NEGATIVE_MARGIN and MARGINS_REFUSED_READING_TOO_LARGE, the instruction with
- * MARGINS_REFUSED_MAY_BE_ZERO and MARGINS_REFUSED_OUT_OF_REACH; it is 0 with the others. */
+ * MARGINS_REFUSED_MAY_BE_ZERO and MARGINS_REFUSED_OUT_OF_REACH, the byte of the number's text with MARGINS_REFUSED_NUMBER_TEXT, of the
+ * margin's text with MARGINS_REFUSED_MARGIN_TEXT; it is 0 with the others. */
 typedef struct {
     uint32_t refusal;
     uint32_t outputs;
@@ -133,8 +147,9 @@ typedef struct {
     uint32_t instructions;
 } margins_formula;
 
-/* refusal 0: the formula was written into the first `bytes` places. Else nothing was written and bytes is 0. The place is the offset of a
- * byte of the text with MARGINS_REFUSED_MISPLACED and MARGINS_REFUSED_TOO_DEEP; it is 0 with every other refusal that packing gives. */
+/* refusal 0: the formula, or the text of a ball, was written into the first `bytes` places. Else nothing was written and bytes is 0. The
+ * place is the offset of a byte of the text with MARGINS_REFUSED_MISPLACED and MARGINS_REFUSED_TOO_DEEP; it is 0 with every other refusal
+ * that packing gives, and with each of margins_to_decimal. */
 typedef struct {
     uint32_t refusal;
     uint32_t bytes;
@@ -263,6 +278,35 @@ MARGINS_MUST_USE margins_formula margins_unpack(
     int64_t *firsts, size_t firsts_length,         /* written: a first field for each instruction; as many */
     int64_t *seconds, size_t seconds_length,       /* written: a second field for each instruction; as many */
     int64_t *outputs, size_t outputs_length);      /* written: the value that each output names; MARGINS_MOST_OUTPUTS are enough */
+
+/* A ball as decimal numbers, which are whole counts of 10^-decimals, and as text, such as 0.5625 +- 0.5625.
+ * The decimal centre is the count nearest to the centre, of two the upper one. The decimal margin is the least count that holds the whole
+ * ball around it: the margin and what rounding the centre lost, rounded up together. So it is 0 only where the margin is 0 and nothing was
+ * lost. The text has the decimal centre, a space, plus, minus, a space, and the decimal margin. Each has at least one digit before the
+ * point and as many behind it as there are decimals, without decimals no point; a minus stands only before a count below 0. Places behind
+ * the first of a list and behind the text keep what they held. margins_from_decimal reads the text again, in two parts, where each has at
+ * most 9 digits and they are in reach; with 9 decimals it has more. */
+MARGINS_MUST_USE margins_packed margins_to_decimal(
+    int64_t scale,                                            /* 0 to 30; a unit is 2^-scale */
+    int64_t decimals,                                         /* 0 to 9 */
+    int64_t centre,                                           /* the ball's centre in units, as margins_ball gives it */
+    uint64_t margin,                                          /* its margin in units; |centre| + margin is at most 2147483647 */
+    int64_t *decimal_centres, size_t decimal_centres_length,  /* written: the decimal centre; 1 place */
+    uint64_t *decimal_margins, size_t decimal_margins_length, /* written: the decimal margin; 1 place */
+    uint8_t *text, size_t text_length);                       /* written: the text, in ASCII, no zero behind it; MARGINS_MOST_DECIMAL_BYTES
+                                                               * places are always enough */
+
+/* A decimal number, give or take a decimal margin, as a reading for margins_ball: whatever is within the written margin of the written
+ * number is inside the reading. A number has an optional minus and 1 to 9 digits in all, with an optional point between digits; a margin
+ * has no minus. The centre is rounded to units, ties up, and the margin is rounded up to units, plus 1 where the number is no whole
+ * number of units. Both texts may be any bytes; a length does not count a zero that ends a text in C. Places behind the first of a list
+ * keep what they held. After refusal 0 `outputs` is 1. */
+MARGINS_MUST_USE margins_reply margins_from_decimal(
+    int64_t scale,                               /* 0 to 30; a unit is 2^-scale */
+    const uint8_t *number, size_t number_length, /* read: the number, such as -0.1, in ASCII */
+    const uint8_t *margin, size_t margin_length, /* read: how far the truth may be from it, such as 0.02 */
+    int64_t *centres, size_t centres_length,     /* written: the reading's centre, in units; 1 place */
+    int64_t *margins, size_t margins_length);    /* written: the reading's margin, in units; 1 place */
 
 #ifdef __cplusplus
 }

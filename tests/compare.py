@@ -5,21 +5,18 @@ import random
 import struct
 import sys
 from collections import Counter
-from itertools import islice
 
 import cases
 import checks
 import demands
-import driver
 import frames
 import met
 import met_wholes
 import reader
+from comparison import Comparison
 from evaluator import formula
 from figures import figures
 
-CHUNK = 4000
-DIFFERENCES_SHOWN = 5
 SHARE_OF_ADMISSIONS = 0.5
 LEAST_SHARE_MULTIPLIED = 0.4
 LEAST_SHARE_DOUBTFUL = 0.2
@@ -28,26 +25,21 @@ LEAST_TRIED = {"demand 2 towards 0": 2000, "demand 3 with a reciprocal": 2000, "
 LONGEST = 4248
 LONGEST_EXACT = 2264
 LONGEST_DIVIDED = 856
-MISSING_SHOWN = 20
 
 
-class Comparison:
+class Runs(Comparison):
+    form = frames
+
     def __init__(self, command):
-        self.command = command
+        super().__init__(command)
         self.rng = random.Random(2)
-        self.passed = self.failed = self.multiplied = self.doubtful = self.divided = 0
+        self.multiplied = self.doubtful = self.divided = 0
         self.refusals = {job: Counter() for job in frames.JOBS}
-        self.met = set()
         self.tried = Counter()
 
-    def judge(self, good, case, *words):
-        if good:
-            self.passed += 1
-            return
-        self.failed += 1
-        if self.failed <= DIFFERENCES_SHOWN:
-            print(f"{case.job}: {case.data.hex()}\n  readings {case.readings}\n  lengths of the lent lists {case.lengths}")
-            print(*words, sep="\n", flush=True)
+    @staticmethod
+    def shown(case):
+        return f"{case.job}: {case.data.hex()}\n  readings {case.readings}\n  lengths of the lent lists {case.lengths}"
 
     def figures(self):
         """The second evaluator itself on the documents' figures."""
@@ -68,24 +60,20 @@ class Comparison:
         admissions = [i for i, want in enumerate(wanted) if some[i].job == "admit" and not want.refusal and self.picked()]
         inside = [case for i in admissions for case in demands.covered(self.rng, some[i])]
         whole = some + inside
-        replies = driver.replies(self.command, whole)
+        replies = self.replies(whole)
         if replies is None:
-            self.judge(False, driver.first_unanswered(self.command, whole), "  the driver ended early")
-            return False
+            return
         for case, want, reply in zip(whole, wanted + [frames.wanted(case) for case in inside], replies):
             self.compare(case, want, reply)
         for number, i in enumerate(admissions):
             plain = len(some) + 2 * number
             self.demand_3(*((whole[j], replies[j]) for j in (i, plain, plain + 1)))
-        return True
 
     def picked(self):
         return self.rng.random() < SHARE_OF_ADMISSIONS
 
     def compare(self, case, want, reply):
-        same = want.reply == reply
-        words = () if same else ("  second evaluator:", frames.told(case, want.reply), "  driver:", frames.told(case, reply))
-        self.judge(same, case, *words)
+        same = self.agrees(case, want, reply)
         self.refusals[case.job][want.refusal] += 1
         if case.job != "check":
             self.met.update(met.met(case, want))
@@ -117,8 +105,7 @@ class Comparison:
         for job, counts in self.refusals.items():
             print(f"{job}: " + ", ".join(f"{number}: {counts[number]}" for number in sorted(counts)))
         self.expect(all(self.refusals["check"][number] for number in (*range(9), 16)), "check: a refusal that no case meets")
-        missing = sorted(met.required() - self.met)
-        self.expect(not missing, f"{len(missing)} things that no case meets: " + "; ".join(missing[:MISSING_SHOWN]))
+        self.meets(met.required())
         total = sum(sum(counts.values()) for counts in self.refusals.values())
         runs = total - sum(self.refusals["check"].values())
         tried = ", ".join(f"{name} {count}" for name, count in sorted(self.tried.items()))
@@ -129,12 +116,6 @@ class Comparison:
         self.expect(self.divided > LEAST_SHARE_DIVIDED * runs, "too few cases are accepted and divide")
         for name, least in LEAST_TRIED.items():
             self.expect(self.tried[name] > least, f"too seldom tried: {name}")
-
-    def expect(self, good, words):
-        self.passed += good
-        self.failed += not good
-        if not good:
-            print(words)
 
 
 def header(data):
@@ -159,16 +140,12 @@ def answer(case, reply):
 
 
 def main(command):
-    comparison = Comparison(command)
+    comparison = Runs(command)
     comparison.figures()
     comparison.reader_itself()
-    stream = cases.all_cases()
-    while some := list(islice(stream, CHUNK)):
-        if not comparison.chunk(some):
-            break
+    comparison.stream(cases.all_cases())
     comparison.sanity()
-    print(f"{comparison.passed} passed, {comparison.failed} failed")
-    return 1 if comparison.failed else 0
+    return comparison.ended()
 
 
 if __name__ == "__main__":

@@ -6,19 +6,16 @@ import struct
 import sys
 from collections import Counter
 from fractions import Fraction
-from itertools import islice
 
 import doubles_cases
 import doubles_frames as frames
 import driver
 import met_doubles
 import reader
+from comparison import Comparison
 from evaluator import M
 from frames import Case
 
-CHUNK = 4000
-DIFFERENCES_SHOWN = 5
-MISSING_SHOWN = 20
 LEAST_OUTPUTS = 20000
 LEAST_OF_A_SCALE = 500
 RANDOM_BITS = 2000
@@ -51,18 +48,16 @@ MEANINGS = (
 )
 
 
-class Comparison:
-    def __init__(self, command):
-        self.command = command
-        self.passed = self.failed = 0
-        self.refusals, self.outputs = Counter(), Counter()
-        self.met = set()
+class Doubles(Comparison):
+    form = frames
 
-    def judge(self, good, *words):
-        self.passed += bool(good)
-        self.failed += not good
-        if not good and self.failed <= DIFFERENCES_SHOWN:
-            print(*words, sep="\n", flush=True)
+    def __init__(self, command):
+        super().__init__(command)
+        self.outputs = Counter()
+
+    @staticmethod
+    def shown(case):
+        return f"doubles: {case.data.hex()}\n  readings {case.readings}\n  lengths of the lent lists {case.lengths}"
 
     def reading_itself(self):
         """The reading of bits by hand-made figures, and beside Python's own of doubles."""
@@ -84,20 +79,12 @@ class Comparison:
         replies = driver.replies(self.command, some, frames) or [b""] * len(some)
         for case, (_, _, both), reply in zip(some, FIGURES, replies):
             found = [bits for places in frames.doubles_in(case, reply) for bits in places]
-            self.judge(found == list(both), shown(case), "  the bits are " + " and ".join(f"{bits:016x}" for bits in found))
+            self.judge(found == list(both), case, "  the bits are " + " and ".join(f"{bits:016x}" for bits in found))
 
-    def chunk(self, some):
-        replies = driver.replies(self.command, some, frames)
-        if replies is None:
-            self.judge(False, shown(driver.first_unanswered(self.command, some, frames)), "  the driver ended early")
-            return
-        for case, reply in zip(some, replies):
-            self.compare(case, reply)
-
-    def compare(self, case, reply):
+    def compared(self, case, reply):
         want = frames.wanted(case)
         same = reply[: len(want.head)] == want.head and not any(frames.wrong_places(case, want, reply))
-        self.judge(same, *(() if same else (shown(case), frames.told(case, want, reply))))
+        self.judge(same, case, *(() if same else (frames.told(case, want, reply),)))
         self.refusals[want.refusal] += 1
         if want.pairs:
             self.outputs[reader.formula(case.data)[0][0]] += len(want.pairs)
@@ -108,26 +95,17 @@ class Comparison:
         print("doubles: " + ", ".join(f"{number}: {self.refusals[number]}" for number in sorted(self.refusals)))
         total, least = sum(self.outputs.values()), min(self.outputs[scale] for scale in doubles_cases.SCALES)
         print(f"cases {sum(self.refusals.values())}, outputs {total}, at each scale {least} or more")
-        self.judge(total >= LEAST_OUTPUTS and least >= LEAST_OF_A_SCALE, "too few outputs")
-        missing = sorted(met_doubles.required() - self.met)
-        self.judge(not missing, f"{len(missing)} things that no case meets: " + "; ".join(missing[:MISSING_SHOWN]))
-
-
-def shown(case):
-    """The whole input."""
-    return f"doubles: {case.data.hex()}\n  readings {case.readings}\n  lengths of the lent lists {case.lengths}"
+        self.expect(total >= LEAST_OUTPUTS and least >= LEAST_OF_A_SCALE, "too few outputs")
+        self.meets(met_doubles.required())
 
 
 def main(command):
-    comparison = Comparison(command)
+    comparison = Doubles(command)
     comparison.reading_itself()
     comparison.figures()
-    stream = doubles_cases.all_cases()
-    while some := list(islice(stream, CHUNK)):
-        comparison.chunk(some)
+    comparison.stream(doubles_cases.all_cases())
     comparison.sanity()
-    print(f"{comparison.passed} passed, {comparison.failed} failed")
-    return 1 if comparison.failed else 0
+    return comparison.ended()
 
 
 if __name__ == "__main__":

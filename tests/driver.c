@@ -1,7 +1,7 @@
-/* Runs framed cases from standard input and writes framed replies to standard output; frames.py, packing_frames.py, text_frames.py and
- * doubles_frames.py tell the forms. Each list is allocated at exactly its length, so that a memory checker sees every step beyond it. In
- * half of the cases of packing, of texts and of doubles sentinels stand behind each list that is written instead, so that a step beyond is
- * seen without a checker. */
+/* Runs framed cases from standard input and writes framed replies to standard output; frames.py, packing_frames.py, text_frames.py,
+ * doubles_frames.py and decimal_frames.py tell the forms. Each list is allocated at exactly its length, so that a memory checker sees every
+ * step beyond it. In half of the cases of packing, of texts, of doubles and of decimals sentinels stand behind each list that is written
+ * instead, so that a step beyond is seen without a checker. */
 #include "margins.h"
 
 #include <stdbool.h>
@@ -9,8 +9,9 @@
 #include <stdlib.h>
 #include <string.h>
 
-enum { CHECK, PLAIN, BALL, ADMIT, RECORDS, PACK, UNPACK, DOUBLES, TEXT };
+enum { CHECK, PLAIN, BALL, ADMIT, RECORDS, PACK, UNPACK, DOUBLES, TEXT, TO_DECIMAL, FROM_DECIMAL };
 enum { CODES, FIRSTS, SECONDS, OUTPUTS, PACKING_LISTS };
+enum { CENTRES, MARGINS, DECIMAL_LISTS };
 enum { MOST_PARTS = 3, BEHIND = 8, BUFFER = 1 << 20 };
 
 typedef struct {
@@ -131,6 +132,23 @@ static bool kept_behind(list lent, size_t list_number, size_t behind, holding *s
     return true;
 }
 
+static bool kept_behind_all(const list *lent, size_t count, size_t behind)
+{
+    bool kept = true;
+    for (size_t i = 0; i < count; i++)
+        kept = kept && kept_behind(lent[i], i, behind, sentinel);
+    return kept;
+}
+
+/* Every place of these lists, which are then no longer needed. */
+static void give_all(list *lent, size_t count)
+{
+    for (size_t i = 0; i < count; i++) {
+        give(lent[i].places, bytes_of(lent[i]));
+        free(lent[i].places);
+    }
+}
+
 /* A formula, or a text, may start at any address. */
 static packed take_formula(size_t number)
 {
@@ -209,10 +227,7 @@ static void run_case(int job, size_t number)
         intact = intact && same(in[i].places, kept[i].places, bytes_of(in[i]));
     give(&intact, sizeof intact);
 
-    for (size_t i = 0; i < 2 * parts; i++) {
-        give(lent[i].places, bytes_of(lent[i]));
-        free(lent[i].places);
-    }
+    give_all(lent, 2 * parts);
     for (size_t i = 0; i < parts; i++) {
         free(in[i].places);
         free(kept[i].places);
@@ -314,15 +329,10 @@ static void unpack_case(size_t number)
                                             lent[FIRSTS].places, lent[FIRSTS].length, lent[SECONDS].places, lent[SECONDS].length,
                                             lent[OUTPUTS].places, lent[OUTPUTS].length);
     give(&answer, sizeof answer);
-    uint8_t intact = same(formula.bytes, formula.kept, formula.length);
-    for (size_t i = 0; i < PACKING_LISTS; i++)
-        intact = intact && kept_behind(lent[i], i, behind, sentinel);
+    uint8_t intact = same(formula.bytes, formula.kept, formula.length) && kept_behind_all(lent, PACKING_LISTS, behind);
     give(&intact, sizeof intact);
 
-    for (size_t i = 0; i < PACKING_LISTS; i++) {
-        give(lent[i].places, bytes_of(lent[i]));
-        free(lent[i].places);
-    }
+    give_all(lent, PACKING_LISTS);
     free_formula(formula);
 }
 
@@ -355,15 +365,59 @@ static void doubles_case(size_t number)
         intact = intact && kept_behind(lent[i], i, behind, held_in(i));
     give(&intact, sizeof intact);
 
-    for (size_t i = 0; i < 2 * BALL; i++) {
-        give(lent[i].places, bytes_of(lent[i]));
-        free(lent[i].places);
-    }
+    give_all(lent, 2 * BALL);
     for (size_t i = 0; i < BALL; i++) {
         free(in[i].places);
         free(kept[i].places);
     }
     free_formula(formula);
+}
+
+static void to_decimal_case(size_t number)
+{
+    int64_t scale, decimals, centre;
+    uint64_t margin;
+    list lent[DECIMAL_LISTS];
+    size_t behind = places_behind(number);
+    take(&scale, sizeof scale);
+    take(&decimals, sizeof decimals);
+    take(&centre, sizeof centre);
+    take(&margin, sizeof margin);
+    for (size_t i = 0; i < DECIMAL_LISTS; i++)
+        lent[i] = lend(i, behind, sentinel);
+    buffer b = lend_buffer(number);
+
+    margins_packed answer = margins_to_decimal(scale, decimals, centre, margin, lent[CENTRES].places, lent[CENTRES].length,
+                                               (uint64_t *)lent[MARGINS].places, lent[MARGINS].length, b.bytes, b.length);
+    give(&answer, sizeof answer);
+    uint8_t intact = kept_around(&b) && kept_behind_all(lent, DECIMAL_LISTS, behind);
+    give(&intact, sizeof intact);
+
+    give_all(lent, DECIMAL_LISTS);
+    give(b.bytes, b.length);
+    free(b.memory);
+}
+
+static void from_decimal_case(size_t number)
+{
+    int64_t scale;
+    list lent[DECIMAL_LISTS];
+    size_t behind = places_behind(number);
+    take(&scale, sizeof scale);
+    packed digits = take_formula(number), margin = take_formula(number / 2);
+    for (size_t i = 0; i < DECIMAL_LISTS; i++)
+        lent[i] = lend(i, behind, sentinel);
+
+    margins_reply answer = margins_from_decimal(scale, digits.bytes, digits.length, margin.bytes, margin.length,
+                                                lent[CENTRES].places, lent[CENTRES].length, lent[MARGINS].places, lent[MARGINS].length);
+    give(&answer, sizeof answer);
+    uint8_t intact = same(digits.bytes, digits.kept, digits.length) && same(margin.bytes, margin.kept, margin.length) &&
+                     kept_behind_all(lent, DECIMAL_LISTS, behind);
+    give(&intact, sizeof intact);
+
+    give_all(lent, DECIMAL_LISTS);
+    free_formula(digits);
+    free_formula(margin);
 }
 
 int main(void)
@@ -380,6 +434,10 @@ int main(void)
             doubles_case(number);
         else if (job == TEXT)
             text_case(number);
+        else if (job == TO_DECIMAL)
+            to_decimal_case(number);
+        else if (job == FROM_DECIMAL)
+            from_decimal_case(number);
         else if (job <= RECORDS)
             run_case(job, number);
         else

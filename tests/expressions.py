@@ -4,9 +4,7 @@ some of the formulas: exact arithmetic on the text lies inside what the ball run
 
 import random
 import sys
-from collections import Counter
 from fractions import Fraction
-from itertools import islice
 
 import driver
 import evaluator
@@ -19,13 +17,11 @@ import text_frames
 import text_search
 import text_table
 import texts
+from comparison import Comparison
 from demands import fraction_inside, small_enough
 from grammar import Misread
 from text_figures import ACCEPTED, README_BYTES, REFUSED
 
-CHUNK = 20000
-DIFFERENCES_SHOWN = 5
-MISSING_SHOWN = 20
 # Up to this size all texts are also read by the search, up to the other one some.
 SEARCHED, SEARCHED_AT_TIMES, SEARCHED_EVERY = 8, 200, 10
 # Accepted texts, none longer than this, whose value is also worked out by Python, and every so many run.
@@ -35,18 +31,20 @@ LEAST_RUNS, LEAST_WITH_COEFFICIENTS = 500, 150
 READING_SIZES = (3, 40, 3000, 1 << 20)
 
 
-class Comparison:
+class Texts(Comparison):
+    form = text_frames
+    second = "second packer"
+    chunk_size = 20000
+
     def __init__(self, command):
-        self.command = command
-        self.passed = self.failed = self.searched = self.runs = self.with_coefficients = 0
-        self.refusals, self.met, self.accepted = Counter(), set(), []
+        super().__init__(command)
+        self.searched = self.runs = self.with_coefficients = 0
+        self.accepted = []
         self.rng = random.Random(4)
 
-    def judge(self, good, *words):
-        self.passed += bool(good)
-        self.failed += not good
-        if not good and self.failed <= DIFFERENCES_SHOWN:
-            print(*words, sep="\n", flush=True)
+    @staticmethod
+    def shown(case):
+        return f"text: {case.text!r}\n  scale {case.scale}, inputs {case.inputs}, a buffer of {case.room}"
 
     def figures(self):
         """The second packer of texts on what was worked out by hand."""
@@ -58,26 +56,16 @@ class Comparison:
             self.judge(found == (*want, b""), f"{text}: by hand {want}; the second packer says {found}")
         self.judge(texts.pack(4, 3, b"a*(b-0.25)+c", len(README_BYTES)) == (0, 0, README_BYTES), "the README's formula has other bytes")
 
-    def chunk(self, some):
-        replies = driver.replies(self.command, some, text_frames)
-        if replies is None:
-            self.judge(False, shown(driver.first_unanswered(self.command, some, text_frames)), "  the driver ended early")
-            return
-        for case, reply in zip(some, replies):
-            self.compared(case, reply)
-
     def compared(self, case, reply):
         want = text_frames.wanted(case)
-        same = want.reply == reply
-        words = () if same else ("  second packer:", text_frames.told(want.reply), "  driver:", text_frames.told(reply))
-        self.judge(same, *(words and (shown(case), *words)))
+        same = self.agrees(case, want, reply)
         self.refusals[want.refusal] += 1
         self.met.update(met_texts.met(case, want))
         often = len(case.text) <= SEARCHED_AT_TIMES and sum(self.refusals.values()) % SEARCHED_EVERY == 0
         if case.inputs in text_search.SEARCHES and (len(case.text) <= SEARCHED or often):
             self.searched += 1
             by_search, by_table = (read_by(read, case) for read in (text_search.read, text_table.read))
-            self.judge(by_search == by_table, shown(case), f"  the search says {by_search}", f"  the table says {by_table}")
+            self.judge(by_search == by_table, case, f"  the search says {by_search}", f"  the table says {by_table}")
         if same and want.refusal == 0 and len(case.text) <= MOST_WORKED_OUT:
             self.worked_out(case, want.data)
 
@@ -91,7 +79,7 @@ class Comparison:
         readings = [Fraction(self.rng.randrange(-99, 100), self.rng.randrange(1, 20)) for _ in range(inputs)]
         exact = evaluator.exact(scale, program, readings, lambda *_: next(numbers))[outputs[0]]
         same = inside and exact == texts.exactly(case.text, readings)
-        self.judge(same, shown(case), f"  the formula's exact value is {exact}, numbers inside their margins: {inside}")
+        self.judge(same, case, f"  the formula's exact value is {exact}, numbers inside their margins: {inside}")
         if small_enough(inputs, program) and (program or len(self.accepted) < RUN_EVERY):
             self.accepted.append((case, data))
 
@@ -104,7 +92,7 @@ class Comparison:
             return
         for (case, data, run), reply in zip(chosen, replies):
             want = frames.wanted(run)
-            self.judge(want.reply == reply, shown(case), f"  its ball run on {run.readings} is not as it should be")
+            self.judge(want.reply == reply, case, f"  its ball run on {run.readings} is not as it should be")
             if want.refusal == 0:
                 self.enclosed(case, data, run, want.outputs[0])
 
@@ -118,7 +106,7 @@ class Comparison:
     def enclosed(self, case, data, run, ball):
         fractions = [fraction_inside(self.rng, case.scale, *one) for one in zip(*run.readings)]
         value = texts.exactly(case.text, fractions)
-        self.judge(evaluator.contains(case.scale, *ball, value), shown(case), f"  on {fractions} it is {value}, outside the ball {ball}")
+        self.judge(evaluator.contains(case.scale, *ball, value), case, f"  on {fractions} it is {value}, outside the ball {ball}")
         self.runs += 1
         self.with_coefficients += packer.COEFFICIENT in packer.lists_of(data)[2]
 
@@ -127,9 +115,8 @@ class Comparison:
         print("texts: " + ", ".join(f"{number}: {self.refusals[number]}" for number in sorted(self.refusals)))
         cases = sum(self.refusals.values())
         print(f"cases {cases}, read both ways {self.searched}, runs {self.runs}, with coefficients {self.with_coefficients}")
-        self.judge(self.runs >= LEAST_RUNS and self.with_coefficients >= LEAST_WITH_COEFFICIENTS, "too few formulas were run")
-        missing = sorted(met_texts.required() - self.met)
-        self.judge(not missing, f"{len(missing)} things that no case meets: " + "; ".join(missing[:MISSING_SHOWN]))
+        self.expect(self.runs >= LEAST_RUNS and self.with_coefficients >= LEAST_WITH_COEFFICIENTS, "too few formulas were run")
+        self.meets(met_texts.required())
 
 
 def read_by(read, case):
@@ -140,21 +127,13 @@ def read_by(read, case):
         return misread.refusal, misread.place
 
 
-def shown(case):
-    """The whole input."""
-    return f"text: {case.text!r}\n  scale {case.scale}, inputs {case.inputs}, a buffer of {case.room}"
-
-
 def main(command):
-    comparison = Comparison(command)
+    comparison = Texts(command)
     comparison.figures()
-    stream = text_cases.all_cases()
-    while some := list(islice(stream, CHUNK)):
-        comparison.chunk(some)
+    comparison.stream(text_cases.all_cases())
     comparison.run_some()
     comparison.sanity()
-    print(f"{comparison.passed} passed, {comparison.failed} failed")
-    return 1 if comparison.failed else 0
+    return comparison.ended()
 
 
 if __name__ == "__main__":

@@ -6,6 +6,8 @@ import sys
 from itertools import islice
 
 import cases
+import decimal_cases
+import decimal_frames
 import doubles_cases
 import doubles_frames
 import frames
@@ -20,6 +22,7 @@ RANDOM = 10000
 RANDOM_PACKING = 4000
 RANDOM_DOUBLES = 4000
 RANDOM_TEXTS = 4000
+RANDOM_DECIMALS = 4000
 CHECKER = ["valgrind", "--quiet", "--error-exitcode=9", "--leak-check=full"]
 
 
@@ -64,6 +67,19 @@ def random_text(rng):
     return text_frames.Text(scale, inputs, text, rng.choice((0, 5, 6, 40, 4248)))
 
 
+def random_decimal(rng):
+    """Any ball, printed into lists of any length; any bytes, most of them such as numbers have, read as a number and as a margin."""
+    scale = rng.choice((0, 4, 20, 30)) if rng.random() < 0.9 else packing_cases.any_number(rng)
+    places = tuple(rng.choice((0, 1, 1, 1, 2, 9)) for _ in range(2))
+    if rng.randrange(2):
+        texts = (bytes(rng.choice(b"01234567890123456789.-") for _ in range(rng.choice((0, 1, 2, 3, 5, 9, 11, 300)))) for _ in range(2))
+        return decimal_frames.In(scale, *(text if rng.random() < 0.9 else text + random_bytes(rng) for text in texts), places)
+    decimals = rng.randrange(10) if rng.random() < 0.9 else packing_cases.any_number(rng)
+    centre = rng.randrange(-(1 << 31), 1 << 31) >> rng.randrange(32) if rng.random() < 0.9 else rng.randrange(-(1 << 63), 1 << 63)
+    margin = rng.randrange(1 << 31) >> rng.randrange(32) if rng.random() < 0.9 else rng.getrandbits(64)
+    return decimal_frames.Out(scale, decimals, centre, margin, places, rng.randrange(60))
+
+
 def survived(driver, form, some):
     """Whether the driver gives the replies that it should to these cases, and the checker finds nothing."""
     asked = b"".join(map(form.asked, some))
@@ -82,7 +98,8 @@ def main(driver):
     packing = list(islice(packing_cases.all_cases(), 0, None, EVERY)) + [random_packing(rng) for _ in range(RANDOM_PACKING)]
     doubles = list(islice(doubles_cases.all_cases(), 0, None, EVERY)) + [random_case(rng, ("ball",)) for _ in range(RANDOM_DOUBLES)]
     read = list(islice(text_cases.all_cases(), 0, None, EVERY)) + [random_text(rng) for _ in range(RANDOM_TEXTS)]
-    parts = ((frames, runs), (packing_frames, packing), (doubles_frames, doubles), (text_frames, read))
+    decimals = list(islice(decimal_cases.all_cases(), 0, None, EVERY)) + [random_decimal(rng) for _ in range(RANDOM_DECIMALS)]
+    parts = ((frames, runs), (packing_frames, packing), (doubles_frames, doubles), (text_frames, read), (decimal_frames, decimals))
     good = [survived(driver, *some) for some in parts]
     print(f"{good.count(True)} passed, {good.count(False)} failed")
     return 0 if all(good) else 1

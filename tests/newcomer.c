@@ -1,6 +1,6 @@
-/* A first program with margins.h: one formula checked, run on readings, its figures given as doubles, admitted for a whole domain, packed
- * from lists and from its text, and read back; then a weight that was rounded, and a quotient. At scale 4 a unit is 1/16. The formula is
- * x*y + x. */
+/* A first program with margins.h: one formula checked, run on readings, its figures printed and given as doubles, admitted for a whole
+ * domain, packed from lists and from its text, and read back; then a weight that was rounded, a quotient, and decimal numbers out and in. At
+ * scale 4 a unit is 1/16. The formula is x*y + x. */
 #include <inttypes.h>
 #include <stdbool.h>
 #include <stdio.h>
@@ -26,7 +26,34 @@ static void tell_refusal(const char *job, margins_reply reply)
         printf(", at instruction %" PRIu64, reply.place);
     if (reply.refusal == MARGINS_REFUSED_NEGATIVE_MARGIN || reply.refusal == MARGINS_REFUSED_READING_TOO_LARGE)
         printf(", at reading %" PRIu64, reply.place);
+    if (reply.refusal == MARGINS_REFUSED_NUMBER_TEXT || reply.refusal == MARGINS_REFUSED_MARGIN_TEXT)
+        printf(", at byte %" PRIu64, reply.place);
     printf("\n");
+}
+
+/* The ball with so many decimals, as text and as counts. */
+static void to_decimal(const char *job, int64_t scale, int64_t decimals, int64_t centre, uint64_t margin, size_t length)
+{
+    int64_t decimal_centre;
+    uint64_t decimal_margin;
+    uint8_t text[MARGINS_MOST_DECIMAL_BYTES];
+    margins_packed made = margins_to_decimal(scale, decimals, centre, margin, &decimal_centre, 1, &decimal_margin, 1, text, length);
+    if (made.refusal)
+        printf("%s: refused %" PRIu32 ", %s\n", job, made.refusal, margins_refusal_text(made.refusal));
+    else
+        printf("%s: %.*s, in counts %" PRId64 " and %" PRIu64 "\n", job, (int)made.bytes, (const char *)text, decimal_centre, decimal_margin);
+}
+
+static void from_decimal(int64_t scale, const char *number, const char *margin, size_t length)
+{
+    int64_t centre, doubt;
+    margins_reply reply = margins_from_decimal(scale, (const uint8_t *)number, strlen(number), (const uint8_t *)margin, strlen(margin),
+                                               &centre, length, &doubt, length);
+    printf("%s and %s ", number, margin);
+    if (reply.refusal)
+        tell_refusal("from decimal", reply);
+    else
+        printf("from decimal: %" PRId64 " give or take %" PRId64 "\n", centre, doubt);
 }
 
 static void check(const uint8_t *bytes, size_t length)
@@ -107,9 +134,14 @@ static void chart(const int64_t centres[2], const int64_t margins[2], size_t len
     margins_reply reply = margins_ball_doubles(formula, sizeof formula, centres, 2, margins, 2, work, MARGINS_MOST_VALUES,
                                                work_margins, MARGINS_MOST_VALUES, chart_centres, MARGINS_MOST_OUTPUTS,
                                                chart_margins, length);
-    if (reply.refusal)
+    if (reply.refusal) {
         tell_refusal("chart", reply);
-    printf("chart: %g give or take %g\n", chart_centres[0], chart_margins[0]);
+        printf("chart: the doubles are %s\n", chart_centres[0] == 0.1 && chart_margins[0] == 0.1 ? "as they were" : "others");
+        return;
+    }
+    bool exactly = is_exactly(chart_centres[0], work[3], 4) && is_exactly(chart_margins[0], (int64_t)work_margins[3], 4);
+    printf("chart: the doubles are %s those of value 3\n", exactly ? "exactly" : "not");
+    to_decimal("chart", 4, 4, work[3], work_margins[3], MARGINS_MOST_DECIMAL_BYTES);
 }
 
 /* How many of the figures of one reading are not exactly what margins_ball gives in units. */
@@ -237,7 +269,7 @@ static void unpack(size_t length)
     printf("unpack: the output is value %" PRId64 "\n", output[0]);
 }
 
-int main(void)
+static void try_runs(void)
 {
     check(formula, sizeof formula);
     check(formula, sizeof formula - 1);
@@ -258,6 +290,10 @@ int main(void)
     admit((const int64_t[]){24, -10}, (const int64_t[]){3, 2}, (const int64_t[]){1, 1});
     admit((const int64_t[]){24, -10}, (const int64_t[]){2147483000, 2}, (const int64_t[]){1, 1});
     admit((const int64_t[]){24, -10}, (const int64_t[]){3, -2}, (const int64_t[]){1, 1});
+}
+
+static void try_packing(void)
+{
     pack(4, MARGINS_MOST_BYTES);
     pack(4, sizeof formula - 1);
     pack(-1, MARGINS_MOST_BYTES);
@@ -279,7 +315,36 @@ int main(void)
     divide(17, (margins_reading){5898240, 65536}, (margins_reading){39321600, 0});
     unpack(MARGINS_MOST_INSTRUCTIONS);
     unpack(1);
-    for (uint32_t refusal = 0; refusal <= MARGINS_REFUSED_TOO_DEEP + 1; refusal++)
+}
+
+static void try_decimals(void)
+{
+    to_decimal("to decimal", 4, 4, 9, 9, MARGINS_MOST_DECIMAL_BYTES);
+    to_decimal("to decimal", 4, 1, 9, 9, MARGINS_MOST_DECIMAL_BYTES);
+    to_decimal("to decimal", 20, 4, 3, 1, MARGINS_MOST_DECIMAL_BYTES);
+    to_decimal("to decimal", 1, 0, -3, 0, MARGINS_MOST_DECIMAL_BYTES);
+    to_decimal("to decimal", 0, 9, -1073741824, 1073741823, MARGINS_MOST_DECIMAL_BYTES);
+    to_decimal("to decimal", 0, 9, -1073741824, 1073741823, MARGINS_MOST_DECIMAL_BYTES - 1);
+    to_decimal("to decimal", 31, 10, 9, 9, MARGINS_MOST_DECIMAL_BYTES);
+    to_decimal("to decimal", 4, 10, 9, 9, MARGINS_MOST_DECIMAL_BYTES);
+    to_decimal("to decimal", 4, 4, INT64_MIN, UINT64_MAX, MARGINS_MOST_DECIMAL_BYTES);
+    from_decimal(20, "0.1", "0.02", 1);
+    from_decimal(4, "-0.5625", "0.5625", 1);
+    from_decimal(0, "-2.5", "0", 1);
+    from_decimal(20, "0.1", "0.02", 0);
+    from_decimal(31, "0,1", "-0.02", 1);
+    from_decimal(20, "0,1", "-0.02", 1);
+    from_decimal(20, "0.1", "-0.02", 1);
+    from_decimal(20, "0.1", "0.", 1);
+    from_decimal(30, "1.5", "0.5", 1);
+}
+
+int main(void)
+{
+    try_runs();
+    try_packing();
+    try_decimals();
+    for (uint32_t refusal = 0; refusal <= MARGINS_REFUSED_DECIMALS + 1; refusal++)
         printf("%" PRIu32 ": %s\n", refusal, margins_refusal_text(refusal));
     return 0;
 }

@@ -3,19 +3,16 @@ every place of every lent list with the second packer; then both round trips."""
 
 import sys
 from collections import Counter
-from itertools import islice
 
-import driver
 import packer
 import packing_cases
 import packing_frames as frames
 import reader
 from checks import longest, longest_divided, longest_exact
+from comparison import Comparison
 from figures import EXAMPLE, QUOTIENT, WEIGHT
 from met_dividing import at_scale_zero, of_bytes
 
-CHUNK = 4000
-DIFFERENCES_SHOWN = 5
 REFUSALS = {frames.Pack: (0, 3, 4, 5, 6, 7, 10, 16), frames.Unpack: (0, 1, 2, 3, 4, 5, 6, 7, 8, 10, 16)}
 # At a scale that reciprocals are not for: what comes behind a 16 (0 for nothing), and what before it.
 REQUIRED = {
@@ -49,18 +46,22 @@ FIGURES = (
 )
 
 
-class Comparison:
-    def __init__(self, command):
-        self.command = command
-        self.passed = self.failed = self.trips = 0
-        self.refusals = {kind: Counter() for kind in REFUSALS}
-        self.met = set()
+class Packing(Comparison):
+    form = frames
+    second = "second packer"
 
-    def judge(self, good, case, *words):
-        self.passed += bool(good)
-        self.failed += not good
-        if not good and self.failed <= DIFFERENCES_SHOWN:
-            print(shown(case), *words, sep="\n", flush=True)
+    def __init__(self, command):
+        super().__init__(command)
+        self.trips = 0
+        self.refusals = {kind: Counter() for kind in REFUSALS}
+
+    @staticmethod
+    def shown(case):
+        if isinstance(case, frames.Unpack):
+            return f"unpack: {case.data.hex()}\n  lengths of the lent lists {case.lengths}"
+        scale, inputs, *lists = case.lists
+        named = "".join(f"\n  {name} {list(numbers)}" for name, numbers in zip(frames.LISTS, lists))
+        return f"pack: scale {scale}, inputs {inputs}, a buffer of {case.room}{named}"
 
     def packer_itself(self):
         """The second packer on the documents' figures, and beside the packer of the other tests, which tests nothing."""
@@ -73,19 +74,10 @@ class Comparison:
             same = packer.packed(*lists) == reader.pack(scale, inputs, program, outputs)
             self.judge(same, frames.Pack(lists, 0), "  the second packer and the other tests' one differ")
 
-    def chunk(self, some):
-        """The replies to some cases, none for one that is not as it should be."""
-        replies = driver.replies(self.command, some, frames)
-        if replies is None:
-            self.judge(False, driver.first_unanswered(self.command, some, frames), "  the driver ended early")
-            return [None] * len(some)
-        return [self.compared(case, reply) for case, reply in zip(some, replies)]
-
     def compared(self, case, reply):
+        """The reply, none where it is not as it should be."""
         want = frames.wanted(case)
-        same = want.reply == reply
-        words = () if same else ("  second packer:", frames.told(case, want.reply), "  driver:", frames.told(case, reply))
-        self.judge(same, case, *words)
+        same = self.agrees(case, want, reply)
         self.refusals[type(case)][want.refusal] += 1
         self.met |= met(case, want.refusal)
         return reply if same else None
@@ -114,15 +106,8 @@ class Comparison:
         for kind, counts in self.refusals.items():
             print(f"{kind.__name__.lower()}: " + ", ".join(f"{number}: {counts[number]}" for number in REFUSALS[kind]))
             missing = [number for number in REFUSALS[kind] if not counts[number]]
-            self.passed += not missing
-            self.failed += bool(missing)
-            if missing:
-                print(f"{kind.__name__.lower()}: refusals that no case meets: {missing}")
-        missing = sorted(REQUIRED - self.met)
-        self.passed += not missing
-        self.failed += bool(missing)
-        if missing:
-            print("orders that no case meets: " + "; ".join(missing))
+            self.expect(not missing, f"{kind.__name__.lower()}: refusals that no case meets: {missing}")
+        self.meets(REQUIRED)
         print(f"cases {sum(sum(counts.values()) for counts in self.refusals.values())}, round trips {self.trips}")
 
 
@@ -145,25 +130,13 @@ def without_missing_fields(lists):
     return scale, inputs, codes, firsts, seconds, outputs
 
 
-def shown(case):
-    """The whole input."""
-    if isinstance(case, frames.Unpack):
-        return f"unpack: {case.data.hex()}\n  lengths of the lent lists {case.lengths}"
-    scale, inputs, *lists = case.lists
-    named = "".join(f"\n  {name} {list(numbers)}" for name, numbers in zip(frames.LISTS, lists))
-    return f"pack: scale {scale}, inputs {inputs}, a buffer of {case.room}{named}"
-
-
 def main(command):
-    comparison = Comparison(command)
+    comparison = Packing(command)
     comparison.packer_itself()
-    stream = packing_cases.all_cases()
-    while some := list(islice(stream, CHUNK)):
-        comparison.chunk(some)
+    comparison.stream(packing_cases.all_cases())
     comparison.round_trips()
     comparison.sanity()
-    print(f"{comparison.passed} passed, {comparison.failed} failed")
-    return 1 if comparison.failed else 0
+    return comparison.ended()
 
 
 if __name__ == "__main__":

@@ -249,10 +249,10 @@ def random_text(rng, scale, inputs, leaves):
     return any_text(rng, leaf, leaves, rng.choice((0, 2, 5, 32)))
 
 
-def damaged(rng, text, inputs):
+def damaged(rng, text, any_byte):
     """A byte put in, taken out or exchanged, two exchanged with each other, or the text cut."""
     place, what = rng.randrange(len(text) + 1), rng.randrange(5)
-    byte = bytes([rng.choice((*b"+-*().a1", *STRANGE, ord("a") + inputs, rng.randrange(256)))])
+    byte = bytes([any_byte()])
     if what == 0:
         return text[:place] + byte + text[place:]
     if what == 1:
@@ -270,11 +270,15 @@ def room_for(rng, given):
 
 def random_texts(rng):
     """At each scale with each number of inputs, whole and damaged."""
+
+    def any_byte():
+        return rng.choice((*b"+-*().a1", *STRANGE, ord("a") + inputs, rng.randrange(256)))
+
     for scale, inputs, i in product(SCALES, INPUTS, range(RANDOM_EACH)):
         text = random_text(rng, scale, inputs, rng.choice((1, 2, 3, 4, 6, 10, 20)) if i else rng.choice((1, 5, 40, 100, 200)))
         yield Text(scale, inputs, text, room_for(rng, (scale, inputs, text)))
         for _ in range(DAMAGED_EACH):
-            spoilt = damaged(rng, text, inputs)
+            spoilt = damaged(rng, text, any_byte)
             yield Text(scale, inputs, spoilt, room_for(rng, (scale, inputs, spoilt)))
 
 

@@ -49,7 +49,7 @@ def right(case, reply):
     return wanted(case).reply == reply
 
 
-def told(reply):
+def told(_, reply):
     """A reply in words; a place that is as it was is a minus."""
     lines = [", ".join(f"{field} {number}" for field, number in zip(("refusal", "bytes", "place"), struct.unpack_from("<IIQ", reply)))]
     if reply[HEAD - 1 : HEAD] != INTACT:

@@ -1,5 +1,5 @@
-//! A logger: the domain is admitted once, then each pair of readings is run with its margins.
-use margins::{admit, ball_records, check, LentBalls, Matryoshki, Reading, Refused};
+//! A logger: the domain is admitted once, then each pair of readings is run with its margins, and the figure is printed in hours.
+use margins::{admit, ball_records, check, to_decimal, LentBalls, Matryoshki, Reading, Refused, MOST_DECIMAL_BYTES};
 
 const FORMULA: [u8; 11] = [0x02, 0x41, 0x00, 0x41, 0x80, 0x00, 0x02, 0x80, 0x20, 0x00, 0x03];
 
@@ -30,9 +30,20 @@ fn log_the_readings() -> Result<(), Refused> {
     for (first, second) in [(24, -10), (26, -11), (i64::from(i32::MAX) - 1, 16), (0, i64::MIN)] {
         let readings = [Reading { centre: first, margin: 1 }, Reading { centre: second, margin: 1 }];
         match ball_records(&FORMULA, &readings, work.lent(), output.lent()) {
-            Ok(count) => (0..count).for_each(|i| println!("y{i}: {} give or take {}", output.centres[i], output.margins[i])),
+            Ok(count) => {
+                for i in 0..count {
+                    println!("y{i}: {} h", hours(formula.scale, output.centres[i], output.margins[i])?);
+                }
+            }
             Err(refused) => println!("{refused}"),
         }
     }
     Ok(())
+}
+
+/// With two decimals; what they round is in the margin.
+fn hours(scale: u32, centre: i64, margin: u64) -> Result<String, Refused> {
+    let mut text = [0; MOST_DECIMAL_BYTES];
+    let printed = to_decimal(scale.into(), 2, centre, margin, &mut text)?;
+    Ok(String::from_utf8_lossy(&text[..printed.bytes]).into())
 }

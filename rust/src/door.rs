@@ -1,6 +1,6 @@
 //! The C functions of `include/margins.h`, each called once. A slice is what they ask of a list: memory that is there, aligned and,
 //! where it is written, disjoint from every other.
-use crate::{Formula, LentBalls, LentDoubles, LentInstructions, LentMatryoshki, Reading, Refusal, Refused};
+use crate::{Decimal, Formula, LentBalls, LentDoubles, LentInstructions, LentMatryoshki, Reading, Refusal, Refused};
 
 #[repr(C)]
 struct Reply {
@@ -93,6 +93,19 @@ extern "C" {
         seconds: *mut i64, seconds_length: usize,
         outputs: *mut i64, outputs_length: usize,
     ) -> Checked;
+    fn margins_to_decimal(
+        scale: i64, decimals: i64, centre: i64, margin: u64,
+        decimal_centres: *mut i64, decimal_centres_length: usize,
+        decimal_margins: *mut u64, decimal_margins_length: usize,
+        text: *mut u8, text_length: usize,
+    ) -> Packed;
+    fn margins_from_decimal(
+        scale: i64,
+        number: *const u8, number_length: usize,
+        margin: *const u8, margin_length: usize,
+        centres: *mut i64, centres_length: usize,
+        margins: *mut i64, margins_length: usize,
+    ) -> Reply;
 }
 
 /// A newer library may give a number that has no name here. It is kept, without its place: nothing here knows what that counts.
@@ -282,6 +295,33 @@ pub fn unpack(formula: &[u8], instructions: LentInstructions<'_>, outputs: &mut 
     })
 }
 
+pub fn to_decimal(scale: i64, decimals: i64, centre: i64, margin: u64, text: &mut [u8]) -> Result<Decimal, Refused> {
+    let mut counts = Decimal::default();
+    // A number by itself is a list of one place, here and below.
+    counts.bytes = packed(unsafe {
+        margins_to_decimal(scale, decimals, centre, margin, &mut counts.centre, 1, &mut counts.margin, 1, text.as_mut_ptr(), text.len())
+    })?;
+    Ok(counts)
+}
+
+pub fn from_decimal(scale: i64, number: &[u8], margin: &[u8]) -> Result<Reading, Refused> {
+    let mut reading = Reading::default();
+    told(unsafe {
+        margins_from_decimal(
+            scale,
+            number.as_ptr(),
+            number.len(),
+            margin.as_ptr(),
+            margin.len(),
+            &mut reading.centre,
+            1,
+            &mut reading.margin,
+            1,
+        )
+    })?;
+    Ok(reading)
+}
+
 #[cfg(test)]
 mod tests {
     use super::*;
@@ -292,9 +332,9 @@ mod tests {
 
     #[test]
     fn only_a_refusal_with_a_named_place_keeps_it() {
-        for number in 1..=22 {
+        for number in 1..=30 {
             let refused = told(Reply { refusal: number, outputs: 0, place: 3 }).unwrap_err();
-            let kept = [11, 14, 15, 17, 18, 19].contains(&number).then_some(3);
+            let kept = [11, 14, 15, 17, 18, 19, 24, 25].contains(&number).then_some(3);
             assert_eq!((refused.refusal.number(), refused.place), (number, kept));
             assert_eq!(packed(Packed { refusal: number, bytes: 0, place: 3 }), Err(refused));
         }
@@ -303,7 +343,7 @@ mod tests {
 
     #[test]
     fn a_later_number_is_a_refusal_and_no_panic() {
-        for number in [9, 12, 20, 255, 1 << 16, u32::MAX] {
+        for number in [9, 12, 20, 23, 28, 255, 1 << 16, u32::MAX] {
             let expected = Refused { refusal: Refusal::Other(number), place: None };
             assert_eq!(told(Reply { refusal: number, outputs: 0, place: u64::MAX }), Err(expected));
             assert_eq!(checked_with(number), Err(expected));
@@ -313,7 +353,7 @@ mod tests {
 
     #[test]
     fn a_refusal_is_the_same_wherever_it_is_given() {
-        for number in (1..=10).chain([16]) {
+        for number in (1..=10).chain([16, 26, 27]) {
             let refused = told(Reply { refusal: number, outputs: 0, place: 0 }).unwrap_err();
             assert_eq!(checked_with(number), Err(refused));
             assert_eq!(packed(Packed { refusal: number, bytes: 0, place: 0 }), Err(refused));

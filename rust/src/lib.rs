@@ -2,10 +2,11 @@
 //!
 //! A formula is a string of bytes. [`check`] says whether bytes are one; [`plain`] runs it on bare readings, [`ball`] on readings with a
 //! margin each, [`ball_doubles`] as [`ball`] with its figures as doubles, [`admit`] once on a whole domain. [`pack_text`] makes the bytes of
-//! a formula as people write it, [`pack`] those of lists of instructions and outputs, [`unpack`] the lists of bytes. Every function may be
-//! called with any bytes, any numbers and lists of any length: it answers or refuses, and a refusal writes no output. [`Refused`] says why
-//! and, where it is about one of them, which reading, instruction or byte of a text. Readings, constants and results, but for those doubles
-//! and the numbers of a text, are whole counts of one unit, 2^-F, where F is the formula's scale.
+//! a formula as people write it, [`pack`] those of lists of instructions and outputs, [`unpack`] the lists of bytes. [`to_decimal`] prints a
+//! figure with its margin, [`from_decimal`] reads a decimal number with its margin as a reading. Every function may be called with any
+//! bytes, any numbers and lists of any length: it answers or refuses, and a refusal writes no output. [`Refused`] says why and, where it is
+//! about one of them, which reading, instruction or byte of a text. Readings, constants and results, but for those doubles, the numbers of a
+//! text and decimal numbers, are whole counts of one unit, 2^-F, where F is the formula's scale.
 //!
 //! The caller lends the memory: a work list needs a place for each value, an output list one for each output. [`Balls`] and [`Matryoshki`]
 //! have room for every formula, [`Doubles`] for the outputs of every formula; [`check`] tells what one formula needs. After an answer the
@@ -44,6 +45,8 @@ pub const MOST_INSTRUCTIONS: usize = 512;
 pub const MOST_VALUES: usize = 528;
 /// Bytes that a formula has at most.
 pub const MOST_BYTES: usize = 4248;
+/// Bytes that the text of [`to_decimal`] has at most.
+pub const MOST_DECIMAL_BYTES: usize = 45;
 
 /// What a formula's header says.
 #[derive(Clone, Copy, Debug, PartialEq, Eq, Hash)]
@@ -63,6 +66,17 @@ impl Formula {
     pub const fn values(&self) -> usize {
         self.inputs + self.instructions
     }
+}
+
+/// A ball in decimal numbers, which are whole counts of 10^-d, where d is the number of decimals: what [`to_decimal`] answers.
+#[derive(Clone, Copy, Debug, Default, PartialEq, Eq, Hash)]
+pub struct Decimal {
+    /// The decimal centre.
+    pub centre: i64,
+    /// The decimal margin.
+    pub margin: u64,
+    /// How many bytes the text has.
+    pub bytes: usize,
 }
 
 /// Whether these bytes are a formula, and what its header says.
@@ -200,4 +214,49 @@ pub fn pack_text(scale: i64, inputs: i64, text: &[u8], formula: &mut [u8]) -> Re
 /// ```
 pub fn unpack(formula: &[u8], instructions: LentInstructions<'_>, outputs: &mut [i64]) -> Result<Formula, Refused> {
     door::unpack(formula, instructions, outputs)
+}
+
+/// A ball in units of 2^-`scale`, such as [`ball`] gives it, as counts of 10^-`decimals` and as text in the first places of `text`.
+///
+/// The decimal centre is the count nearest to the centre, of two the upper one. The decimal margin is the least count that holds the whole
+/// ball around it: the margin and what rounding the centre lost, rounded up together. So it is 0 only where the margin is 0 and nothing was
+/// lost. Each number of the text has at least one digit before the point and `decimals` behind it, without decimals no point; a minus stands
+/// only before a count below 0. Later places of `text` keep what they held. [`MOST_DECIMAL_BYTES`] places are enough for every ball.
+///
+/// Scale, decimals and reach are tested in this order, and the room last. Where each number of the text has at most 9 digits and they are in
+/// reach, [`from_decimal`] reads it again; with 9 decimals it has more.
+///
+/// ```
+/// let mut text = [0; margins::MOST_DECIMAL_BYTES];
+/// // 9 sixteenths, give or take 9.
+/// let printed = margins::to_decimal(4, 4, 9, 9, &mut text)?;
+/// assert_eq!((printed.centre, printed.margin), (5625, 5625));
+/// assert_eq!(&text[..printed.bytes], b"0.5625 +- 0.5625");
+/// // So little that nothing is left of it but its margin.
+/// let printed = margins::to_decimal(20, 4, 3, 1, &mut text)?;
+/// assert_eq!(&text[..printed.bytes], b"0.0000 +- 0.0001");
+/// # Ok::<(), margins::Refused>(())
+/// ```
+pub fn to_decimal(scale: i64, decimals: i64, centre: i64, margin: u64, text: &mut [u8]) -> Result<Decimal, Refused> {
+    door::to_decimal(scale, decimals, centre, margin, text)
+}
+
+/// A decimal number, give or take a decimal margin, as a reading in units of 2^-`scale`: whatever is within the written margin of the
+/// written number is inside the reading.
+///
+/// A number has an optional minus and 1 to 9 digits in all, with an optional point between digits; a margin has no minus. The centre is
+/// rounded to units, ties up, and the margin is rounded up to units, plus 1 where the number is no whole number of units. Scale, number,
+/// margin and reach are tested in this order.
+///
+/// ```
+/// use margins::{from_decimal, Reading};
+/// // 0.1 is 104857.6 units, and 0.02 is 20971.52.
+/// assert_eq!(from_decimal(20, b"0.1", b"0.02")?, Reading { centre: 104858, margin: 20973 });
+/// let refused = from_decimal(20, b"0,1", b"0.02").unwrap_err();
+/// assert_eq!((refused.refusal.number(), refused.place), (24, Some(1)));
+/// assert_eq!(refused.to_string(), "the number's text has a byte that cannot stand there, or ends too early (refused 24), at byte 1");
+/// # Ok::<(), margins::Refused>(())
+/// ```
+pub fn from_decimal(scale: i64, number: &[u8], margin: &[u8]) -> Result<Reading, Refused> {
+    door::from_decimal(scale, number, margin)
 }

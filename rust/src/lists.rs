@@ -1,7 +1,7 @@
 //! The lists that a caller lends, and readings as records.
 use crate::{MOST_INSTRUCTIONS, MOST_OUTPUTS, MOST_VALUES};
 
-/// One reading with its margin, for [`ball_records`](crate::ball_records).
+/// One reading with its margin, for [`ball_records`](crate::ball_records) and from [`from_decimal`](crate::from_decimal).
 #[repr(C)]
 #[derive(Clone, Copy, Debug, Default, PartialEq, Eq, Hash)]
 pub struct Reading {

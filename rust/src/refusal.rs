@@ -43,6 +43,15 @@ pub enum Refusal {
     Misplaced,
     /// 19: over 32 parentheses and minuses of the text are open at once. The place is the byte, from 0, that opens the 33rd.
     TooDeep,
+    /// 24: no decimal number that begins as this one has this byte there, or the text ends too early. The place is the byte, from 0, or the
+    /// text's length where it ends too early; what stands before it is good.
+    NumberText,
+    /// 25: the same of the margin's text, which has no minus. The place is a byte of that text.
+    MarginText,
+    /// 26: a ball that is printed or read has |centre| + margin over 2147483647 units.
+    BallReach,
+    /// 27: the number of decimals is outside 0 to 9.
+    DecimalPlaces,
     /// A number that this version has no name for. A later one may name it: rather compare, or ask [`Refusal::number`].
     Other(u32),
 }
@@ -74,6 +83,10 @@ impl Refusal {
             17 => Refusal::MayBeZero,
             18 => Refusal::Misplaced,
             19 => Refusal::TooDeep,
+            24 => Refusal::NumberText,
+            25 => Refusal::MarginText,
+            26 => Refusal::BallReach,
+            27 => Refusal::DecimalPlaces,
             _ => Refusal::Other(number),
         })
     }
@@ -83,7 +96,7 @@ impl Refusal {
         match self.number() {
             11 | 17 => Some("instruction"),
             14 | 15 => Some("reading"),
-            18 | 19 => Some("byte"),
+            18 | 19 | 24 | 25 => Some("byte"),
             _ => None,
         }
     }
@@ -109,6 +122,10 @@ impl Refusal {
             Refusal::MayBeZero => (17, "a reciprocal of what may be 0"),
             Refusal::Misplaced => (18, "the text has a byte that cannot stand there, or ends too early"),
             Refusal::TooDeep => (19, "over 32 parentheses and minuses of the text are open at once"),
+            Refusal::NumberText => (24, "the number's text has a byte that cannot stand there, or ends too early"),
+            Refusal::MarginText => (25, "the margin's text has a byte that cannot stand there, or ends too early"),
+            Refusal::BallReach => (26, "the ball's |centre| + margin is over 2147483647 units"),
+            Refusal::DecimalPlaces => (27, "the number of decimals is outside 0 to 9"),
             Refusal::Other(number) => (number, "for a reason that this version has no words for"),
         }
     }
@@ -154,8 +171,9 @@ pub struct Refused {
     /// Why.
     pub refusal: Refusal,
     /// Where, from 0: with [`Refusal::OutOfReach`] and [`Refusal::MayBeZero`] the instruction, with [`Refusal::NegativeMargin`] and
-    /// [`Refusal::ReadingTooLarge`] the reading, with [`Refusal::Misplaced`] and [`Refusal::TooDeep`] the byte of the text. The other
-    /// refusals of this version have no place.
+    /// [`Refusal::ReadingTooLarge`] the reading, with [`Refusal::Misplaced`] and [`Refusal::TooDeep`] the byte of the text, with
+    /// [`Refusal::NumberText`] that of the number's text and with [`Refusal::MarginText`] that of the margin's. The other refusals of this
+    /// version have no place.
     pub place: Option<usize>,
 }
 

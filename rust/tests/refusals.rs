@@ -148,8 +148,10 @@ fn each_number_has_one_refusal_and_words_of_its_own() {
     assert_eq!(Refusal::Other(11), Refusal::OutOfReach);
     assert_eq!((Refusal::Other(16), Refusal::Other(17)), (Refusal::ReciprocalScale, Refusal::MayBeZero));
     assert_eq!((Refusal::Other(18), Refusal::Other(19)), (Refusal::Misplaced, Refusal::TooDeep));
+    assert_eq!((Refusal::Other(24), Refusal::Other(25)), (Refusal::NumberText, Refusal::MarginText));
+    assert_eq!((Refusal::Other(26), Refusal::Other(27)), (Refusal::BallReach, Refusal::DecimalPlaces));
     assert_ne!(Refusal::Other(20), Refusal::OutOfReach);
-    let numbers = [1, 2, 3, 4, 5, 6, 7, 8, 10, 11, 13, 14, 15, 16, 17, 18, 19];
+    let numbers = [1, 2, 3, 4, 5, 6, 7, 8, 10, 11, 13, 14, 15, 16, 17, 18, 19, 24, 25, 26, 27];
     let words = numbers.map(|number| Refusal::numbered(number).unwrap().to_string());
     for (number, said) in numbers.into_iter().zip(&words) {
         assert_eq!(Refusal::numbered(number).unwrap().number(), number);
@@ -160,7 +162,7 @@ fn each_number_has_one_refusal_and_words_of_its_own() {
 
 #[test]
 fn a_later_number_is_kept_and_told() {
-    for number in [9, 12, 20, 4096, u32::MAX] {
+    for number in [9, 12, 20, 23, 28, 4096, u32::MAX] {
         let refusal = Refusal::numbered(number).unwrap();
         assert!(matches!(refusal, Refusal::Other(n) if n == number));
         assert_eq!(refusal.number(), number);
@@ -186,6 +188,14 @@ fn the_words_say_where() {
     assert_eq!(misplaced, "the text has a byte that cannot stand there, or ends too early (refused 18), at byte 0");
     let deep = at(Refusal::TooDeep, 32).to_string();
     assert_eq!(deep, "over 32 parentheses and minuses of the text are open at once (refused 19), at byte 32");
+    let number = at(Refusal::NumberText, 9).to_string();
+    assert_eq!(number, "the number's text has a byte that cannot stand there, or ends too early (refused 24), at byte 9");
+    let margin = at(Refusal::MarginText, 0).to_string();
+    assert_eq!(margin, "the margin's text has a byte that cannot stand there, or ends too early (refused 25), at byte 0");
+    let reach = Refused::from(Refusal::BallReach).to_string();
+    assert_eq!(reach, "the ball's |centre| + margin is over 2147483647 units (refused 26)");
+    let decimals = Refused::from(Refusal::DecimalPlaces).to_string();
+    assert_eq!(decimals, "the number of decimals is outside 0 to 9 (refused 27)");
     assert_eq!(check(&[]).unwrap_err().to_string(), "the bytes end inside a field (refused 1)");
 }
 
@@ -221,6 +231,7 @@ fn the_types_have_what_a_user_expects() {
     expected::<Refusal>();
     expected::<Refused>();
     with_default::<Reading>();
+    with_default::<Decimal>();
     with_default::<Balls>();
     with_default::<Matryoshki>();
     with_default::<Instructions>();

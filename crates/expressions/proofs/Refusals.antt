@@ -1,10 +1,9 @@
 -- Each refusal is given exactly when the request says. Assumes nothing.
 use mathlib.Core.Path.{_≡_, refl, sym, _∙_, ap, subst}
 use mathlib.Core.List.{List, _++_, append-assoc}
-use Prim.Native.Nat.{ℕ, suc, _+_, _-_, _≤_, _<_}
-use native.Mathlib.Omega.{arith}
+use Prim.Native.Nat.{ℕ, suc}
 use lib.ListN.{take, drop, take-append-drop}
-use lib.Seq.{take-add}
+use Rattle.lists.proofs.Beginnings as law
 use Rattle.expressions.specs.Tree.{Tree}
 use Rattle.expressions.specs.Texts.{Text, Begins, Parsed, tree, refused-at, parse, Refusal, wrong-byte, wrong-end, too-many}
 use Rattle.expressions.proofs.Prefixes.{parsed-text, refused-as}
@@ -15,15 +14,8 @@ module _ (m n : ℕ) (s : List ℕ) where
   begins-part {j} a b x =
       record { rest = b ++ x .rest; says = x .says; is-text = subst (λ l. Text m j l (x .says)) (append-assoc a b (x .rest)) (x .is-text) }
 
-  begins-shorter : {j p q : ℕ} → p ≤ q → Begins m j (take q s) → Begins m j (take p s)
-  begins-shorter {j} {p} {q} l x =
-      begins-part (take p s) (take (q - p) (drop p s)) (subst (Begins m j) (ap (λ (k : ℕ). take k s) (parted l) ∙ take-add p (q - p) s) x)
-    where
-      parted : p ≤ q → q ≡ p + (q - p)
-      parted l = omega arith
-
   begins-take : {j : ℕ} (p : ℕ) → Begins m j s → Begins m j (take p s)
-  begins-take {j} p x = begins-part (take p s) (drop p s) (subst (Begins m j) (sym (take-append-drop p s)) x)
+  begins-take p x = law.begins-take begins-part s p x
 
   text-begins : {t : Tree} (p : ℕ) → Text m n s t → Begins m n (take p s)
   text-begins {t} p x = record { rest = drop p s; says = t; is-text = subst (λ l. Text m n l t) (sym (take-append-drop p s)) x }
@@ -35,10 +27,7 @@ module _ (m n : ℕ) (s : List ℕ) where
 
   -- the bytes go wrong at one place only
   one-place : (p q : ℕ) → Begins m n (take p s) → (Begins m n (take (suc p) s) → ⊥) → Begins m n (take q s) → (Begins m n (take (suc q) s) → ⊥) → p ≡ q
-  one-place p q b w c v =
-      let h : p < q → ⊥ = λ l. w (begins-shorter l c) in
-      let k : q < p → ⊥ = λ l. v (begins-shorter l b) in
-      omega arith
+  one-place p q b w c v = law.one-place begins-part s p q b w c v
 
   one-refusal : {r p r' p' : ℕ} → Refusal m n s r p → Refusal m n s r' p' → refused-at r p ≡ refused-at r' p'
   one-refusal (wrong-byte {p} l b w) (wrong-byte {p = q} l' b' w') = ap (refused-at 18) (one-place p q b (w n) b' (w' n))

@@ -16,14 +16,16 @@ use Rattle.packed.proofs.FieldIn.{between, below-out, above-out}
 use Rattle.packing.specs.Slots.{Slot, slot, header-slots}
 use Rattle.packing.specs.Packing.{fits, slots-tested}
 use Rattle.fitting.specs.declared.Size.the-variants.{Bits, Refused}
-use Rattle.fitting.specs.Sizes.{is-below, counted, Sizes}
-use Rattle.fitting.proofs.Tests.{asked, tested-fit, tested-unfit, all-fit, one-unfit}
+use Rattle.whole.specs.Limits.{is-below}
+use Rattle.fitting.specs.Sizes.{counted, Sizes}
+use Rattle.whole.proofs.Limits.{asked}
+use Rattle.fitting.proofs.Tests.{tested-fit, tested-unfit, all-fit, one-unfit}
 
-fits-scale : (z : ℤ) → fits scale z ≡ is-below 31 z
+pub fits-scale : (z : ℤ) → fits scale z ≡ is-below 31 z
 fits-scale (pos n) = refl
 fits-scale (negsuc n) = refl
 
-fits-inputs : (z : ℤ) → fits inputs z ≡ is-below 17 z
+pub fits-inputs : (z : ℤ) → fits inputs z ≡ is-below 17 z
 fits-inputs (pos n) = refl
 fits-inputs (negsuc n) = refl
 

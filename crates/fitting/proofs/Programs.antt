@@ -24,8 +24,10 @@ use Rattle.packing.specs.Packing.{slots-tested}
 use Rattle.packing.proofs.Lengths.{instruction-wide}
 use Rattle.fitting.specs.declared.Size.{Size}
 use Rattle.fitting.specs.declared.Size.the-variants.{Bits, Refused}
-use Rattle.fitting.specs.Sizes.{is-below, Sizes}
-use Rattle.fitting.proofs.Tests.{asked, fits-operand, tested-fit, tested-unfit, all-fit, one-unfit}
+use Rattle.whole.specs.Limits.{is-below}
+use Rattle.fitting.specs.Sizes.{Sizes}
+use Rattle.whole.proofs.Limits.{asked}
+use Rattle.fitting.proofs.Tests.{fits-operand, tested-fit, tested-unfit, all-fit, one-unfit}
 use Rattle.fitting.proofs.Summing.{Summing, summing-none, summing-more, summing-stops, summing-ends}
 
 -- ---- instructions from three lists

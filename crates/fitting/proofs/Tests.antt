@@ -13,6 +13,7 @@ use mir.Val.{SFits}
 use mir.ValLaws.{toZ-ofZ}
 use Rattle.whole.proofs.Cases.{ap₃, never, both}
 use Rattle.whole.proofs.Machine.{back}
+use Rattle.whole.proofs.Limits.{asked}
 use Rattle.refusals.specs.declared.Refusal.{Refusal}
 use Rattle.refusals.specs.declared.Refusal.the-variants as refusal
 use Rattle.refusals.specs.Answer.{value, refuse, then}
@@ -27,23 +28,8 @@ use Rattle.packing.specs.Packing.{fits, slots-tested}
 use Rattle.packing.proofs.Formats.{twos-complement-encoded}
 use Rattle.fitting.specs.declared.Size.{Size}
 use Rattle.fitting.specs.declared.Size.the-variants.{Bits, Refused}
-use Rattle.fitting.specs.Sizes.{is-below, coefficient-fits, Sizes}
-
-pub negative-out : (limit : ℕ) (z : ℤ) → SFits w64 z → ltZ (back z) (pos 0) ≡ true → false ≡ is-below limit z
-negative-out limit z f e = by-sign z (subst (λ (x : ℤ). ltZ x (pos 0) ≡ true) (toZ-ofZ w64 z f) e)
-  where
-    by-sign : (z : ℤ) → ltZ z (pos 0) ≡ true → false ≡ is-below limit z
-    by-sign (pos n) e = absurd (let l = ltb-true n 0 e in omega arith)
-    by-sign (negsuc n) e = refl
-
-pub natural-below : (limit : ℕ) (z : ℤ) {n : ℕ} → SFits w64 z → ltZ (back z) (pos 0) ≡ false → n ≡ natAbs (back z)
-    → ltb n limit ≡ is-below limit z
-natural-below limit z {n} f e k =
-    by-sign z (subst (λ (x : ℤ). ltZ x (pos 0) ≡ false) (toZ-ofZ w64 z f) e) (k ∙ ap natAbs (toZ-ofZ w64 z f))
-  where
-    by-sign : (z : ℤ) → ltZ z (pos 0) ≡ false → n ≡ natAbs z → ltb n limit ≡ is-below limit z
-    by-sign (pos n) e k = ap (λ (i : ℕ). ltb i limit) k ∙ sym (ap (λ (t : Bool). t && ltb n limit) (leb·zero n))
-    by-sign (negsuc n) e k = never e
+use Rattle.whole.specs.Limits.{is-below}
+use Rattle.fitting.specs.Sizes.{coefficient-fits, Sizes}
 
 and-false : (t : Bool) → t && false ≡ false
 and-false true = refl
@@ -145,10 +131,6 @@ all-fit {ss} {n} e w =
 
 pub one-unfit : {ss : List Slot} {r : Refusal} → slots-tested ss ≡ refuse r → Sizes ss (Refused r)
 one-unfit {ss} e = record { answers = sym (ap (λ a. then a (λ u. value (slots-width ss))) e) }
-
--- what the code asked of a number as the machine keeps it
-pub asked : (limit : ℕ) {z : ℤ} {t u : Bool} → SFits w64 z → t ≡ is-below limit (back z) → t ≡ u → is-below limit z ≡ u
-asked limit {z} f e k = ap (is-below limit) (sym (toZ-ofZ w64 z f)) ∙ sym e ∙ k
 
 sized-as : {z : ℤ} {n k : ℕ} → SFits w64 z → n ≡ natAbs (back z) → n ≡ k → natAbs z ≡ k
 sized-as {z} f e l = ap natAbs (sym (toZ-ofZ w64 z f)) ∙ sym e ∙ l

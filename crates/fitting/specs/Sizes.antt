@@ -1,21 +1,17 @@
 -- What the tests answer: how many bits the fields take, or the first refusal.
 use mathlib.Core.Path.{_≡_}
-use mathlib.Core.Bool.{Bool, false, _&&_}
+use mathlib.Core.Bool.{Bool, _&&_}
 use mathlib.Core.List.{List, _++_}
 use Prim.Native.Nat.{ℕ, _+_, _^_, _≤_}
-use lib.IntN.{ℤ, pos, negsuc}
+use lib.IntN.{ℤ}
 use lib.ListN.{length}
 use Rattle.refusals.specs.Answer.{Answer, value, refuse, then}
-use Rattle.packed.specs.Items.{from-below, centre, margin}
+use Rattle.packed.specs.Items.{centre, margin}
 use Rattle.packing.specs.Raw.{RawInstruction, RawFormula, number-of, same-lengths, instructions-of}
 use Rattle.packing.specs.Slots.{Slot, encoded, program-slots, result-slots, raw-slots, slots-width}
 use Rattle.packing.specs.Packing.{fits, slots-tested}
 use Rattle.fitting.specs.declared.Size.{Size}
 use Rattle.fitting.specs.declared.Size.the-variants.{Bits, Refused}
-
-abbrev pub is-below : ℕ → ℤ → Bool
-is-below limit (pos n) = from-below 0 limit n
-is-below limit (negsuc n) = false
 
 -- a centre and its margin are both fit
 abbrev pub coefficient-fits : ℤ → ℤ → Bool

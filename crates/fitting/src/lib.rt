@@ -5,24 +5,16 @@ ghost use Prim.Native.Nat.{_≤_};
 ghost use lib.ListN.{length};
 ghost use Rattle.packing.specs.Raw.{raw, parts, handed, instructions-of};
 ghost use Rattle.packing.specs.Slots.{header-slots, instruction-slots, program-slots, result-slots};
-ghost use Rattle.fitting.specs.Sizes.{is-below, coefficient-fits, counted};
+ghost use Rattle.whole.specs.Limits.{is-below};
+ghost use Rattle.fitting.specs.Sizes.{coefficient-fits, counted};
 ghost use Rattle.fitting.specs.Sizes.{Sizes, Counts, BodySizes, FormulaSizes};
 use refusals::Refusal;
+use whole::below;
 use whole::magnitude;
 
 pub enum Size {
     Bits(usize),
     Refused(Refusal),
-}
-
-// Whether a number is from 0 on and below `limit`.
-fn below(z: i64, limit: u64) -> bool
-    ensures { λ t. ⌜ t ≡ is-below limit z ⌝ }
-{
-    if z < 0 {
-        return false;
-    }
-    magnitude(z) < limit
 }
 
 // Whether a centre and its margin reach at most M.

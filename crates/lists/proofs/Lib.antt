@@ -6,3 +6,4 @@ pub mod OneWriting
 pub mod PartOf
 pub mod Each
 pub mod Joined
+pub mod Beginnings

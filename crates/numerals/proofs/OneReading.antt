@@ -10,7 +10,7 @@ use Rattle.numerals.specs.declared.Numeral.the-variants.{Got, NoDigit}
 use Rattle.numerals.specs.Digits.{Reading, numeral-reading, Within, Reads}
 
 -- the bytes behind a place tell it
-same-place : (s : List ℕ) {m n : ℕ} → m ≤ length s → n ≤ length s → drop m s ≡ drop n s → m ≡ n
+pub same-place : (s : List ℕ) {m n : ℕ} → m ≤ length s → n ≤ length s → drop m s ≡ drop n s → m ≡ n
 same-place s {m} {n} k l e = omega (arith, ap length e, length-drop m s, length-drop n s)
 
 pub reads-one-outcome : {s : List ℕ} {from : ℕ} {what : Reading} (r t : Numeral) → Reads s from what r → Reads s from what t

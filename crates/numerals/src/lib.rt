@@ -111,7 +111,7 @@ pub fn read(text: &[u8], at: usize) -> Numeral
     Numeral::NoDigit(at)
 }
 
-fn power_of_ten(e: u32) -> u64
+pub fn power_of_ten(e: u32) -> u64
     requires { ⌜ e ≤ 9 ⌝ }
     ensures { λ r. ⌜ r ≡ 10 ^ e ⌝ }
 {

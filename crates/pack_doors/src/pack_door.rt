@@ -2,9 +2,8 @@
 ghost use Rattle.packing.specs.Raw.{parts, handed};
 ghost use Rattle.pack_doors.specs.PackDoors.{PackDoor};
 use packer::pack;
-use refusals::Reply;
-use refusals::number_of;
 use replies::MarginsPacked;
+use replies::packed_told;
 
 #[no_mangle]
 pub extern "C" fn margins_pack(
@@ -20,16 +19,6 @@ pub extern "C" fn margins_pack(
         (parts (now (codes .entry)) (now (firsts .entry)) (now (seconds .entry)) (now (outputs .entry))))
         (now (bytes .entry)) (now (bytes .exit)) r ⌝ }
 {
-    match pack(scale, inputs, codes, firsts, seconds, outputs, bytes) {
-        Reply::Done(n) => MarginsPacked {
-            refusal: 0,
-            bytes: n as u32,
-            place: 0,
-        },
-        Reply::Refused(why, place) => MarginsPacked {
-            refusal: number_of(why),
-            bytes: 0,
-            place: place as u64,
-        },
-    }
+    let r = pack(scale, inputs, codes, firsts, seconds, outputs, bytes);
+    packed_told(r)
 }

@@ -1,20 +1,22 @@
 -- A number with or without its minus, by what reading its digits told. Assumes nothing.
-use mathlib.Core.Path.{_≡_, refl, sym, _∙_, ap, subst}
+use mathlib.Core.Path.{_≡_, refl, sym, _∙_, ap}
 use mathlib.Core.Bool.{Bool, true, false, cond}
 use mathlib.Core.List.{List, [], _∷_}
 use mathlib.Core.Option.{Option, none, some}
-use Prim.Native.Nat.{ℕ, zero, suc, _-_, _^_, _≤_, _<_}
+use Prim.Native.Nat.{ℕ, _-_, _^_, _≤_, _<_}
 use native.Mathlib.Nat.{not-suc-le-zero}
 use native.Mathlib.Omega.{arith}
 use borrow.Author.Tests.{eq-eqb, ne-eqb}
 use borrow.Rule.Slice.PartAt.{part-to-end}
 use lib.Dec.{eqb}
-use lib.IntN.{pos, negℤ, natAbs, _-ℤ_, +ℤ-idl}
+use lib.IntN.{pos, negℤ, _-ℤ_}
 use lib.ListN.{length, getD, take, drop}
 use mir.Syntax.{w64}
 use mir.Val.{SFits, toZ}
-use mir.ValLaws.{toZ-pos, toZ-ofZ}
-use Rattle.whole.proofs.Machine.{back, fits-size}
+use mir.ValLaws.{toZ-pos}
+use Rattle.whole.proofs.Machine.{back}
+use Rattle.whole.proofs.Minus.{count-fits, minus-back}
+use Rattle.whole.proofs.Minus as law
 use Rattle.whole.proofs.Cases.{by-case}
 use Rattle.parsing.specs.declared.Digits.{Digits}
 use Rattle.parsing.specs.declared.Digits.the-variants.{Got, Malformed}
@@ -39,21 +41,17 @@ number-is (b ∷ s) l t e =
 
 -- a number of ten digits on the machine, and 0 − it
 module _ {s : List ℕ} {r : Digits} {n : ℕ} (e : r ≡ Got n) (d : ReadsDigits s r) where
-  brief : n < 10 ^ 10
-  brief = rw e at (d .small)
+  brief : n < 2 ^ 63
+  brief = let few : n < 10 ^ 10 = rw e at (d .small) in omega arith
 
   pub digits-fit : SFits w64 (pos n)
-  digits-fit = fits-size (omega (arith, brief))
-
-  minus : pos 0 -ℤ toZ w64 n ≡ negℤ (pos n)
-  minus = ap (λ z. pos 0 -ℤ z) (toZ-pos w64 n (omega (arith, brief))) ∙ +ℤ-idl (negℤ (pos n))
-
-  size-minus : (n : ℕ) → natAbs (negℤ (pos n)) ≡ n
-  size-minus zero = refl
-  size-minus (suc n) = refl
+  digits-fit = count-fits brief
 
   pub minus-fits : SFits w64 (pos 0 -ℤ toZ w64 n)
-  minus-fits = subst (SFits w64) (sym minus) (fits-size (let e = size-minus n in omega (arith, brief, e)))
+  minus-fits = law.minus-fits brief
+
+  minus : back (pos 0 -ℤ toZ w64 n) ≡ negℤ (pos n)
+  minus = minus-back brief
 
 module _ (s : List ℕ) (l : 1 ≤ length s) {r : Digits} where
   module _ (m : getD s 0 0 ≡ 45) (d : ReadsDigits (take (length s - 1) (drop 1 s)) r) where
@@ -67,7 +65,7 @@ module _ (s : List ℕ) (l : 1 ≤ length s) {r : Digits} where
     minus-malformed k = minus-told k
 
     pub minus-number : {n : ℕ} → r ≡ Got n → some (back (pos 0 -ℤ toZ w64 n)) ≡ number-meant s
-    minus-number {n} k = ap some (toZ-ofZ w64 (pos 0 -ℤ toZ w64 n) (minus-fits k d) ∙ minus k d) ∙ minus-told k
+    minus-number {n} k = ap some (minus k d) ∙ minus-told k
 
   module _ (m : getD s 0 0 ≡ 45 → ⊥) (d : ReadsDigits s r) where
     bare-told : {r' : Digits} → r ≡ r' → some-then (digits-answer r') (λ n. some (pos n)) ≡ number-meant s
@@ -79,4 +77,4 @@ module _ (s : List ℕ) (l : 1 ≤ length s) {r : Digits} where
     bare-malformed k = bare-told k
 
     pub bare-number : {n : ℕ} → r ≡ Got n → some (toZ w64 n) ≡ number-meant s
-    bare-number {n} k = ap some (toZ-pos w64 n (omega (arith, brief k d))) ∙ bare-told k
+    bare-number {n} k = ap some (toZ-pos w64 n (brief k d)) ∙ bare-told k

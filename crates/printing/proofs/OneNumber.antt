@@ -40,7 +40,7 @@ last-one (x ∷ xs) (y ∷ ys) a b e =
     let rest : xs ≡ ys = h .0 in
     (cc, h .1)
 
-digits-some : (f n : ℕ) → 1 ≤ length (digits-of f n)
+pub digits-some : (f n : ℕ) → 1 ≤ length (digits-of f n)
 unfolding digits-of
 digits-some zero n = omega arith
 digits-some (suc f) n = by-test (ltb n 10)

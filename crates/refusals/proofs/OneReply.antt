@@ -5,7 +5,7 @@ use Prim.Native.Nat.{ℕ}
 use native.Mathlib.Omega.{arith}
 use lib.ListN.{getD}
 use Rattle.refusals.specs.declared.Refusal.{Refusal}
-use Rattle.refusals.specs.declared.Refusal.the-variants.{Ended, Version, Scale, Count, Code, Operand, Constant, Padding, NoRoom, OutOfReach, AnotherForm, ReadingCount, NegativeMargin, ReadingTooLarge, ReciprocalScale, MayBeZero, Misplaced, TooDeep}
+use Rattle.refusals.specs.declared.Refusal.the-variants.{Ended, Version, Scale, Count, Code, Operand, Constant, Padding, NoRoom, OutOfReach, AnotherForm, ReadingCount, NegativeMargin, ReadingTooLarge, ReciprocalScale, MayBeZero, Misplaced, TooDeep, NumberText, MarginText, BallReach, DecimalPlaces}
 use Rattle.refusals.specs.declared.Reply.{Reply}
 use Rattle.refusals.specs.declared.Reply.the-variants.{Done, Refused}
 use Rattle.refusals.specs.declared.Verdict.{Verdict}
@@ -16,11 +16,12 @@ use Rattle.refusals.specs.Places.{Where, Placed, refuse-at, verdict-says
 use Rattle.refusals.specs.Said.{Said, answered, refuses, reply-said}
 use Rattle.refusals.proofs.Answers.{no-value, refused-same}
 
--- place n has the refusal of number n; no refusal has number 0 or 9
+-- place n has the refusal of number n; no refusal has number 0, 9 or 20 to 23
 abbrev in-order : List Refusal
 in-order =
     Ended ∷ Ended ∷ Version ∷ Scale ∷ Count ∷ Code ∷ Operand ∷ Constant ∷ Padding ∷ Ended ∷ NoRoom ∷ OutOfReach ∷ AnotherForm
-    ∷ ReadingCount ∷ NegativeMargin ∷ ReadingTooLarge ∷ ReciprocalScale ∷ MayBeZero ∷ Misplaced ∷ TooDeep ∷ []
+    ∷ ReadingCount ∷ NegativeMargin ∷ ReadingTooLarge ∷ ReciprocalScale ∷ MayBeZero ∷ Misplaced ∷ TooDeep
+    ∷ Ended ∷ Ended ∷ Ended ∷ Ended ∷ NumberText ∷ MarginText ∷ BallReach ∷ DecimalPlaces ∷ []
 
 number-back : (r : Refusal) → getD in-order (refusal-number r) Ended ≡ r
 number-back Ended = refl
@@ -41,6 +42,10 @@ number-back ReciprocalScale = refl
 number-back MayBeZero = refl
 number-back Misplaced = refl
 number-back TooDeep = refl
+number-back NumberText = refl
+number-back MarginText = refl
+number-back BallReach = refl
+number-back DecimalPlaces = refl
 
 pub same-number : (q r : Refusal) → refusal-number q ≡ refusal-number r → q ≡ r
 same-number q r e = sym (number-back q) ∙ ap (λ (n : ℕ). getD in-order n Ended) e ∙ number-back r
@@ -49,6 +54,10 @@ same-number q r e = sym (number-back q) ∙ ap (λ (n : ℕ). getD in-order n En
 abbrev number-in : {A : Type 0} → Answer A → ℕ
 number-in (value a) = 0
 number-in (refused n) = n
+
+-- none has number 0
+pub never-zero : (r : Refusal) → refusal-number r ≡ 0 → ⊥
+never-zero r z = let e : 1 ≡ refusal-number r = ap refusal-number (sym (ap (λ (n : ℕ). getD in-order n Ended) z) ∙ number-back r) in omega arith
 
 pub one-refusal : {A : Type 0} {q r : Refusal} → _≡_ {A = Answer A} (refuse q) (refuse r) → q ≡ r
 one-refusal {q = q} {r = r} e = same-number q r (ap number-in e)

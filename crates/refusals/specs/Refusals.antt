@@ -1,4 +1,5 @@
--- Document 01, "Numbered replies and their order", with requests b, c, e and h: the paper's number for each refusal.
+-- Document 01, "Numbered replies and their order", with requests b, c, e and h, and with decimals: the number for each
+-- refusal.
 use Prim.Native.Nat.{ℕ, _≤_}
 use Rattle.refusals.specs.declared.Refusal.{Refusal}
 use Rattle.refusals.specs.declared.Refusal.the-variants as refusal
@@ -9,7 +10,8 @@ use Rattle.refusals.specs.declared.Refusal.the-variants as refusal
 -- list under n" · "a step's result is out of reach" · "input of another form" · "wrong number of readings" · "a stray
 -- or margin is negative" · "reach or size" · "the scale is over 16" · "a is 0 .., |a| is at most r .. or |A| is at most
 -- R+r" · "the first byte that no text of this grammar with this beginning has there" · "the 33rd parenthesis or
--- factor's minus open at once"
+-- factor's minus open at once" · 20 to 23 are not given yet · "bad text" of a number · of a margin · "a reach over M" of
+-- what was read · "a number of decimals d" that is not "from 0 to 9"
 abbrev pub refusal-number : Refusal → ℕ
 refusal-number refusal.Ended = 1
 refusal-number refusal.Version = 2
@@ -29,6 +31,10 @@ refusal-number refusal.ReciprocalScale = 16
 refusal-number refusal.MayBeZero = 17
 refusal-number refusal.Misplaced = 18
 refusal-number refusal.TooDeep = 19
+refusal-number refusal.NumberText = 24
+refusal-number refusal.MarginText = 25
+refusal-number refusal.BallReach = 26
+refusal-number refusal.DecimalPlaces = 27
 
 -- the refusals of the bytes: "1 to 8", and "16 at reading"
 pub data OfBytes : ℕ → Type 0 where

@@ -3,7 +3,7 @@
 ghost use mathlib.Core.Path.{_≡_};
 ghost use Rattle.refusals.specs.Refusals.{refusal-number};
 
-// In the order of the paper's numbers; 9 is none.
+// In the order of the numbers; 9 is none, and 20 to 23 are not given yet.
 pub enum Refusal {
     Ended,
     Version,
@@ -23,6 +23,10 @@ pub enum Refusal {
     MayBeZero,
     Misplaced,
     TooDeep,
+    NumberText,
+    MarginText,
+    BallReach,
+    DecimalPlaces,
 }
 
 // Whether what a caller brought passed its test, or why not and at which place.
@@ -60,5 +64,9 @@ pub fn number_of(r: Refusal) -> u32
         Refusal::MayBeZero => 17,
         Refusal::Misplaced => 18,
         Refusal::TooDeep => 19,
+        Refusal::NumberText => 24,
+        Refusal::MarginText => 25,
+        Refusal::BallReach => 26,
+        Refusal::DecimalPlaces => 27,
     }
 }

@@ -1,7 +1,7 @@
 -- From a job's reply to what C is told: an answer names at most 16 outputs, and the door leaves what the job leaves and no more. Assumes nothing.
 use mathlib.Core.Path.{_≡_, refl, sym, _∙_, ap, subst}
 use mathlib.Core.List.{List}
-use Prim.Native.Nat.{ℕ, _≤_}
+use Prim.Native.Nat.{ℕ, _≤_, zero-le}
 use native.Mathlib.Omega.{arith}
 use lib.ListN.{length, getD, length-map}
 use Rattle.refusals.specs.declared.Refusal.{Refusal}
@@ -27,7 +27,7 @@ use Rattle.checking.specs.declared.Checked.the-variants as checked
 use Rattle.checking.specs.CheckAnswers.{check-answer}
 use Rattle.replies.specs.declared.MarginsReply.{MarginsReply}
 use Rattle.replies.specs.declared.MarginsFormula.{MarginsFormula}
-use Rattle.replies.specs.Doors.{margins-reply, margins-formula, outputs-told, CheckedInLimits, Door}
+use Rattle.replies.specs.Doors.{margins-reply, margins-packed, margins-formula, outputs-told, CheckedInLimits, Door}
 
 pub job-few : (K : Kind) (s : List ℕ) (given : K .Readings) (work output : ℕ) → outputs-told (said (job K (formula s) given work output)) ≤ 16
 job-few K s given work output = by-start (start K (formula s) given work output) refl
@@ -64,8 +64,20 @@ door-kept {K} law s {given} {old} {new} {r} d z = by-said (said (lent-job K (for
         absurd (omega (arith, job-numbered law (formula s) given (K .room (old .work)) (K .room (old .output)) (formula-numbered s) (sym u)))
 
 -- a reply, case by case
-pub done-few : (q : Reply) {n : ℕ} → outputs-told (reply-said q) ≤ 16 → q ≡ Done n → n ≤ 16
-done-few q l e = subst (λ t. outputs-told (reply-said t) ≤ 16) e l
+pub done-few : (most : ℕ) (q : Reply) {n : ℕ} → outputs-told (reply-said q) ≤ most → q ≡ Done n → n ≤ most
+done-few most q l e = subst (λ t. outputs-told (reply-said t) ≤ most) e l
+
+-- where an answer names so many at the most, what is told does
+pub few-told : (most : ℕ) (q : Reply) → ((n : ℕ) → q ≡ Done n → n ≤ most) → outputs-told (reply-said q) ≤ most
+few-told most (Done n) few = few n refl
+few-told most (Refused r k) few = zero-le
+
+pub packed-done : {q : Reply} {n : ℕ} → q ≡ Done n → record { refusal = 0; bytes = n; place = 0 } ≡ margins-packed (reply-said q)
+packed-done e = sym (ap (λ t. margins-packed (reply-said t)) e)
+
+pub packed-refused : {q : Reply} {why : Refusal} {n k : ℕ} → n ≡ refusal-number why → q ≡ Refused why k
+    → record { refusal = n; bytes = 0; place = k } ≡ margins-packed (reply-said q)
+packed-refused {k = k} m t = ap (λ (n : ℕ). record { refusal = n; bytes = 0; place = k }) m ∙ sym (ap (λ t. margins-packed (reply-said t)) t)
 
 pub told-done : {q : Reply} {n : ℕ} → q ≡ Done n → record { refusal = 0; outputs = n; place = 0 } ≡ margins-reply (reply-said q)
 told-done e = sym (ap (λ t. margins-reply (reply-said t)) e)

@@ -5,7 +5,7 @@ ghost use Rattle.refusals.specs.Answer.{value};
 ghost use Rattle.refusals.specs.Said.{reply-said};
 ghost use Rattle.formulas.specs.Formula.{InLimits};
 ghost use Rattle.checking.specs.CheckAnswers.{check-answer};
-ghost use Rattle.replies.specs.Doors.{margins-reply, margins-formula, outputs-told, CheckedInLimits};
+ghost use Rattle.replies.specs.Doors.{margins-reply, margins-packed, margins-formula, outputs-told, CheckedInLimits};
 use checking::Checked;
 use formulas::Header;
 use refusals::Reply;
@@ -58,6 +58,25 @@ pub fn replied(r: Reply) -> MarginsReply
             place: 0,
         },
         Reply::Refused(why, place) => refused(number_of(why), place),
+    }
+}
+
+// A reply that tells how many bytes were written.
+pub fn packed_told(r: Reply) -> MarginsPacked
+    requires { ⌜ outputs-told (reply-said r) ≤ 4248 ⌝ }
+    ensures { λ x. ⌜ x ≡ margins-packed (reply-said r) ⌝ }
+{
+    match r {
+        Reply::Done(n) => MarginsPacked {
+            refusal: 0,
+            bytes: n as u32,
+            place: 0,
+        },
+        Reply::Refused(why, place) => MarginsPacked {
+            refusal: number_of(why),
+            bytes: 0,
+            place: place as u64,
+        },
     }
 }
 

@@ -1,8 +1,7 @@
 // Packing a text, as a program in C or Rust links it.
 ghost use Rattle.text_door.specs.TextDoors.{TextDoor};
-use refusals::Reply;
-use refusals::number_of;
 use replies::MarginsPacked;
+use replies::packed_told;
 use text_packer::pack_text;
 
 #[no_mangle]
@@ -14,16 +13,6 @@ pub extern "C" fn margins_pack_text(
 ) -> MarginsPacked
     ensures { λ r. ⌜ TextDoor scale inputs (now (text .entry)) (now (bytes .entry)) (now (bytes .exit)) r ⌝ }
 {
-    match pack_text(scale, inputs, text, bytes) {
-        Reply::Done(n) => MarginsPacked {
-            refusal: 0,
-            bytes: n as u32,
-            place: 0,
-        },
-        Reply::Refused(why, place) => MarginsPacked {
-            refusal: number_of(why),
-            bytes: 0,
-            place: place as u64,
-        },
-    }
+    let r = pack_text(scale, inputs, text, bytes);
+    packed_told(r)
 }

@@ -14,6 +14,7 @@ use expression_parser::parse;
 use packer::pack;
 use refusals::Refusal;
 use refusals::Reply;
+use whole::below;
 
 fn first_in(word: u64) -> u64
     ensures { λ r. ⌜ r ≡ first-in word ⌝ }
@@ -175,16 +176,10 @@ fn pack_words(
 pub fn pack_text(scale: i64, inputs: i64, text: &[u8], out: &mut [u8]) -> Reply
     ensures { λ r. ⌜ PacksText scale inputs (now (text .entry)) (now (out .entry)) (now (out .exit)) r ⌝ }
 {
-    if scale < 0 {
+    if !below(scale, 31) {
         return Reply::Refused(Refusal::Scale, 0);
     }
-    if 30 < scale {
-        return Reply::Refused(Refusal::Scale, 0);
-    }
-    if inputs < 0 {
-        return Reply::Refused(Refusal::Count, 0);
-    }
-    if 16 < inputs {
+    if !below(inputs, 17) {
         return Reply::Refused(Refusal::Count, 0);
     }
     let mut words = [0u64; 512];

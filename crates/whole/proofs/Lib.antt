@@ -6,3 +6,5 @@ pub mod Floor
 pub mod Order
 pub mod Machine
 pub mod Cases
+pub mod Limits
+pub mod Minus

@@ -9,7 +9,7 @@ replied-spec =
     tie.close
     (tie.spec
     (λ c. search needs)
-    (λ c. let l = done-few (c .before .before .before .args .r) (c .before .before .before .pre) (c .before .r .given .1) in search needs)
+    (λ c. let l = done-few 16 (c .before .before .before .args .r) (c .before .before .before .pre) (c .before .r .given .1) in search needs)
     (λ c. search needs)
     (λ c κs. search needs)
     (λ c κs. search needs)

@@ -1,6 +1,6 @@
 -- `margins_pack_text` meets its contract. Assumes nothing.
 use borrow.Author.Needs.{needs}
-use Rattle.text_door.proofs.TextTelling.{bytes-fit, told-done, told-refused}
+use Rattle.text_door.proofs.TextTelling.{bytes-few, told-text}
 use Rattle.text_door.proofs.margins_pack_text.Statement.{statement}
 use Rattle.text_door.proofs.margins_pack_text.Tie as tie
 
@@ -9,11 +9,6 @@ margins-pack-text-spec =
     tie.close
     (tie.spec
     (λ c κs. search needs)
+    (λ c κs. search bytes-few)
     (λ c. search needs)
-    (λ c. search bytes-fit)
-    (λ c. search needs)
-    (λ c κs. search needs)
-    (λ c. search needs)
-    (λ c. search told-done)
-    (λ c. search needs)
-    (λ c. search told-refused))
+    (λ c. search told-text))

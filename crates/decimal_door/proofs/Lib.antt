@@ -1,0 +1,2 @@
+-- The doors of decimals.
+pub mod DecimalTelling

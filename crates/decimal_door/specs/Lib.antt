@@ -1,0 +1,2 @@
+-- What C sees of decimals out and in.
+pub mod DecimalDoors

@@ -1,0 +1,2 @@
+-- The laws of printed counts.
+pub mod Printing

@@ -1,0 +1,2 @@
+-- What the printing of counts asks of its caller.
+pub mod Room

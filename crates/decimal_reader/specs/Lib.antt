@@ -1,0 +1,2 @@
+-- What the answers of the reader tell.
+pub mod Answers

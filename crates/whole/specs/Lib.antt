@@ -1,0 +1,2 @@
+-- Signed numbers between limits.
+pub mod Limits
