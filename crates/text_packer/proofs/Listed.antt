@@ -99,6 +99,12 @@ module _ {value count : ℕ} {words : List ℕ} (l : Listable value count words)
       subst (λ q. Packs q old new r)
       (λ i. handed (toZ-ofZ w64 F u i) (toZ-ofZ w64 m v i) (parts (front-column e i) (front-column f i) (front-column g i) (pos value ∷ []))) (p .packs)
 
+-- the same of the numbers that the code passes on
+pub packed-so : {F m : ℤ} (n count : ℕ) (words : List ℕ) {old new : List ℕ} {r : Reply} → SFits w64 F → SFits w64 m
+    → Packs (handed (back F) (back m) (words-parts n count words)) old new r → Packs (handed F m (words-parts n count words)) old new r
+packed-so {F} {m} n count words {old} {new} {r} u v p =
+    subst (λ q. Packs q old new r) (λ i. handed (toZ-ofZ w64 F u i) (toZ-ofZ w64 m v i) (words-parts n count words)) p
+
 -- what the packer was handed: a cast that fits is the number
 pub packed-front : {F m : ℤ} {value count : ℕ} {codes firsts seconds : List ℤ} {old new : List ℕ} {r : Reply} → SFits w64 F → SFits w64 m → Fronted value count codes firsts seconds
     → Packs (handed (back F) (back m) (parts (take count codes) (take count firsts) (take count seconds) (back (pos value) ∷ []))) old new r

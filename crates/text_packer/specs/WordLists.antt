@@ -31,6 +31,13 @@ pub record Listable (value count : ℕ) (words : List ℕ) : Type 0 where
   pub words-all : length words ≡ 512
   pub value-small : value < 2 ^ 63
 
+-- three lists with a place for each of the words
+pub record Columned (value count : ℕ) (words : List ℕ) (codes firsts seconds : List ℤ) : Type 0 where
+  pub listable : Listable value count words
+  pub codes-there : count ≤ length codes
+  pub firsts-there : count ≤ length firsts
+  pub seconds-there : count ≤ length seconds
+
 -- the fronts of three lists, with the one output
 pub record Fronted (value count : ℕ) (codes firsts seconds : List ℤ) : Type 0 where
   pub codes-there : count ≤ length codes

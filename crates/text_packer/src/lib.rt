@@ -4,7 +4,7 @@ ghost use mathlib.Core.Path.{_≡_};
 ghost use Prim.Native.Nat.{_≤_};
 ghost use lib.ListN.{length, take};
 ghost use Rattle.text_packer.specs.WordNumbers.{first-in, second-in, NumberIn, Lists, word-fits, all-fit};
-ghost use Rattle.text_packer.specs.WordLists.{Fronted, PacksFront, Listable, words-parts, Packable};
+ghost use Rattle.text_packer.specs.WordLists.{Fronted, PacksFront, Listable, Columned, words-parts, Packable};
 ghost use Rattle.text_packing.specs.TextPacking.{PacksText};
 ghost use Rattle.packing.specs.Raw.{handed};
 ghost use Rattle.packing.specs.PackAnswers.{Packs};
@@ -125,7 +125,29 @@ fn pack_front(
     )
 }
 
-// The first `count` words as the packer's lists, and the one output.
+// The first `count` words, written into three lists and packed with the one output.
+fn pack_columns(
+    scale: i64,
+    inputs: i64,
+    value: usize,
+    count: usize,
+    words: &[u64],
+    codes: &mut [i64],
+    firsts: &mut [i64],
+    seconds: &mut [i64],
+    out: &mut [u8],
+) -> Reply
+    requires { ⌜ Columned value count (now words) (now codes) (now firsts) (now seconds) ⌝ }
+    ensures { λ r. ⌜ Packs (handed scale inputs (words-parts value count (now (words .entry))))
+        (now (out .entry)) (now (out .exit)) r ⌝ }
+{
+    column(words, count, 0, codes);
+    column(words, count, 1, firsts);
+    column(words, count, 2, seconds);
+    pack_front(scale, inputs, value, count, codes, firsts, seconds, out)
+}
+
+// The first `count` words as the packer's lists. Most texts have few, and a list must be filled before it is written.
 fn pack_lists(
     scale: i64,
     inputs: i64,
@@ -138,13 +160,36 @@ fn pack_lists(
     ensures { λ r. ⌜ Packs (handed scale inputs (words-parts value count (now (words .entry))))
         (now (out .entry)) (now (out .exit)) r ⌝ }
 {
+    if count <= 64 {
+        let mut a = [0i64; 64];
+        let mut b = [0i64; 64];
+        let mut c = [0i64; 64];
+        return pack_columns(
+            scale,
+            inputs,
+            value,
+            count,
+            words,
+            &mut a,
+            &mut b,
+            &mut c,
+            out,
+        );
+    }
     let mut codes = [0i64; 512];
     let mut firsts = [0i64; 512];
     let mut seconds = [0i64; 512];
-    column(words, count, 0, &mut codes);
-    column(words, count, 1, &mut firsts);
-    column(words, count, 2, &mut seconds);
-    pack_front(scale, inputs, value, count, &codes, &firsts, &seconds, out)
+    pack_columns(
+        scale,
+        inputs,
+        value,
+        count,
+        words,
+        &mut codes,
+        &mut firsts,
+        &mut seconds,
+        out,
+    )
 }
 
 // The constants are tested up to instruction 513, then the number of instructions.
