@@ -73,16 +73,16 @@ def table():
     states, actions, jumps, opening = [with_rules([WHOLE])], {}, {}, set()
     behind = follows()
     for number, items in enumerate(states):
-        todo = {(number, END): None} if (WHOLE[0], WHOLE[1], 1) in items else {}
+        entries = {(number, END): None} if (WHOLE[0], WHOLE[1], 1) in items else {}
         for symbol, moved in moves(items).items():
             states += [moved] if moved not in states else []
-            (jumps if symbol in RULES else todo)[number, symbol] = states.index(moved)
+            (jumps if symbol in RULES else entries)[number, symbol] = states.index(moved)
         for name, rule, done in items:
             reductions = {(number, terminal): (name, rule) for terminal in behind.get(name, ()) if done == len(rule)}
-            if reductions.keys() & todo.keys():
-                raise Ambiguous(f"the table has two entries for {reductions.keys() & todo.keys()}")
-            todo |= reductions
-        actions |= todo
+            if reductions.keys() & entries.keys():
+                raise Ambiguous(f"the table has two entries for {reductions.keys() & entries.keys()}")
+            entries |= reductions
+        actions |= entries
         opening |= {number} if any(rule in OPENING and done == 1 for _, rule, done in items) else set()
     return Table(actions, jumps, opening)
 
