@@ -9,4 +9,5 @@
 #define margins_unpack baseline_unpack
 #define margins_to_decimal baseline_to_decimal
 #define margins_from_decimal baseline_from_decimal
+#define margins_explain baseline_explain
 #define WITHOUT_RECORDS

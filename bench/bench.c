@@ -10,13 +10,14 @@
 #include <string.h>
 #include <time.h>
 
-enum { CHECK, PLAIN, BALL, ADMIT, PACK, UNPACK, DOUBLES, TEXT, FORMULA_JOBS, TO_DECIMAL = FORMULA_JOBS, FROM_DECIMAL, JOBS };
+enum { CHECK, PLAIN, BALL, ADMIT, PACK, UNPACK, DOUBLES, TEXT, EXPLAIN, FORMULA_JOBS, TO_DECIMAL = FORMULA_JOBS, FROM_DECIMAL, JOBS };
 enum { BASELINE, LIBRARY, SIDES };
 enum { ROUNDS = 501, BATCH_NANOSECONDS = 20000, TRIED_RUNS = 100 };
 enum { VALUES = MARGINS_MOST_VALUES, OUTPUTS = MARGINS_MOST_OUTPUTS, STEPS = MARGINS_MOST_INSTRUCTIONS, BYTES = MARGINS_MOST_BYTES };
 enum { FORMULAS = 5, DECIMAL_BYTES = MARGINS_MOST_DECIMAL_BYTES };
 
-static const char *const job_names[JOBS] = {"check", "plain", "ball", "admit", "pack", "unpack", "doubles", "text", "dec.out", "dec.in"};
+static const char *const job_names[JOBS] = {"check", "plain", "ball", "admit", "pack", "unpack", "doubles", "text", "explain",
+                                            "dec.out", "dec.in"};
 static const uint32_t growing[] = {16, 64, 256, 512};
 
 /* What a run leaves, cleared before two runs are compared. */
@@ -30,6 +31,7 @@ static struct {
     int64_t decimal_centres[BALLS], read_centres[BALLS], read_margins[BALLS];
     uint64_t decimal_margins[BALLS];
     uint8_t decimal_texts[BALLS][DECIMAL_BYTES];
+    margins_explanation explanation;
 } left;
 
 typedef uint32_t run(const workload *w);
@@ -74,6 +76,11 @@ typedef uint32_t run(const workload *w);
     {                                                                                                                                    \
         return side##_pack_text(w->scale, w->inputs, (const uint8_t *)w->text, w->text_length, left.bytes, BYTES).refusal;               \
     }                                                                                                                                    \
+    static uint32_t side##_explain_run(const workload *w)                                                                                \
+    {                                                                                                                                    \
+        left.explanation = side##_explain(w->bytes, w->length, w->middles, w->inputs, w->wide_strays, w->inputs, w->margins, w->inputs); \
+        return left.explanation.refusal;                                                                                                 \
+    }                                                                                                                                    \
     static uint32_t side##_to_decimal_run(const workload *w)                                                                             \
     {                                                                                                                                    \
         uint32_t refusals = 0;                                                                                                           \
@@ -96,9 +103,9 @@ RUNS(margins)
 
 static run *const runs[SIDES][JOBS] = {
     {baseline_check_run, baseline_plain_run, baseline_ball_run, baseline_admit_run, baseline_pack_run, baseline_unpack_run,
-     baseline_doubles_run, baseline_text_run, baseline_to_decimal_run, baseline_from_decimal_run},
+     baseline_doubles_run, baseline_text_run, baseline_explain_run, baseline_to_decimal_run, baseline_from_decimal_run},
     {margins_check_run, margins_plain_run, margins_ball_run, margins_admit_run, margins_pack_run, margins_unpack_run,
-     margins_doubles_run, margins_text_run, margins_to_decimal_run, margins_from_decimal_run},
+     margins_doubles_run, margins_text_run, margins_explain_run, margins_to_decimal_run, margins_from_decimal_run},
 };
 
 typedef struct {
@@ -136,6 +143,8 @@ static void agree(const workload *w)
             fail("the baseline packs other bytes", w, job);
         if (job == TEXT && packed_instructions() != w->instructions)
             fail("the text has another number of instructions", w, job);
+        if (job == EXPLAIN && left.explanation.answer != MARGINS_ADMITTED_TO)
+            fail("the domain is not one that must shrink", w, job);
         kept = left;
         memset(&left, 0, sizeof left);
         if (runs[LIBRARY][job](w))
@@ -225,6 +234,22 @@ static void ratios(const workload *w)
     }
 }
 
+/* How many admissions the baseline's way takes, and how many it would by trying each t from the whole domain down. */
+static void admissions(const workload *w)
+{
+    for (int i = 0; i < FORMULAS; i++, w++) {
+        baseline_admissions = 0;
+        margins_explanation found = baseline_explain(w->bytes, w->length, w->middles, w->inputs, w->wide_strays, w->inputs, w->margins, w->inputs);
+        unsigned by_halves = baseline_admissions;
+        margins_explanation tried = baseline_explain_from_above(w->bytes, w->length, w->middles, w->inputs, w->wide_strays, w->inputs,
+                                                                w->margins, w->inputs);
+        if (memcmp(&found, &tried, sizeof found))
+            fail("from above it is another explanation", w, EXPLAIN);
+        printf("explain, %s: admitted to %d of 256; admissions by halves %u, from above %u\n", w->name, found.parts, by_halves,
+               baseline_admissions - by_halves);
+    }
+}
+
 static void decimal_ratios(const workload *w)
 {
     heading("library over baseline", FORMULA_JOBS, JOBS);
@@ -260,6 +285,7 @@ int main(int arguments, char **argument)
     const int all = FORMULAS + DECIMAL_KINDS;
     if (arguments == 1) {
         ratios(w);
+        admissions(w);
         decimal_ratios(w + FORMULAS);
         growth();
         return 0;

@@ -82,9 +82,11 @@ static void two(packing *p, uint32_t code, uint32_t left, uint32_t right)
     put(p, right, 10);
 }
 
-/* The last value is the only output. */
-static workload finish(packing *p)
+/* The last value is the only output. Of the wide strays a part is admitted. */
+static workload finish(packing *p, int64_t wide)
 {
+    for (uint32_t i = 0; i < p->made.inputs; i++)
+        p->made.wide_strays[i] = wide;
     uint32_t last = p->made.inputs + p->made.instructions - 1;
     put(p, last, 10);
     p->made.output = last;
@@ -100,7 +102,7 @@ workload dot_product(void)
     for (uint32_t i = 1; i < TERMS; i++)
         two(&p, ADD, i == 1 ? 2 * TERMS : 3 * TERMS + i - 2, 2 * TERMS + i);
     write_dot_product(&p.made);
-    return finish(&p);
+    return finish(&p, 128 * UNIT);
 }
 
 workload polynomial(void)
@@ -114,7 +116,7 @@ workload polynomial(void)
         two(&p, ADD, sum + 1, sum + 2);
     }
     write_polynomial(&p.made, DEGREE, 0);
-    return finish(&p);
+    return finish(&p, 3 * UNIT);
 }
 
 workload coefficients(void)
@@ -129,7 +131,7 @@ workload coefficients(void)
         two(&p, ADD, sum + 1, sum + 2);
     }
     write_polynomial(&p.made, COEFFICIENTS_DEGREE, 1);
-    return finish(&p);
+    return finish(&p, 3 * UNIT);
 }
 
 /* The divisors are 1 to 2 in size and of both signs. */
@@ -147,7 +149,7 @@ workload reciprocals(void)
         two(&p, MULTIPLY, i, 2 * TERMS + i);
     for (uint32_t i = 1; i < TERMS; i++)
         two(&p, ADD, i == 1 ? 3 * TERMS : 4 * TERMS + i - 2, 3 * TERMS + i);
-    return finish(&p);
+    return finish(&p, 2 * UNIT);
 }
 
 /* One operand is a late value and the other an input of size at most 1, so that values grow by sums only. */
@@ -167,7 +169,8 @@ workload mix(uint32_t instructions)
         }
     }
     write_mix(&p.made);
-    return finish(&p);
+    /* The more instructions, the sooner one of them is out of reach. */
+    return finish(&p, 3 * MARGINS_MOST_INSTRUCTIONS / instructions * UNIT);
 }
 
 /* A count of 10^-behind. */

@@ -1,5 +1,5 @@
-/* Formulas, packed, as lists and most of them as a text, with readings for the benchmark; every run of them stays in reach. And balls to be
- * printed, with texts of numbers to be read. */
+/* Formulas, packed, as lists and most of them as a text, with readings for the benchmark; every run of them stays in reach, but for the
+ * admission of a domain with wide strays. And balls to be printed, with texts of numbers to be read. */
 #ifndef WORKLOADS_H
 #define WORKLOADS_H
 
@@ -20,6 +20,7 @@ typedef struct {
     uint32_t scale, inputs, instructions;
     int64_t codes[MARGINS_MOST_INSTRUCTIONS], firsts[MARGINS_MOST_INSTRUCTIONS], seconds[MARGINS_MOST_INSTRUCTIONS], output;
     int64_t middles[MARGINS_MOST_INPUTS], strays[MARGINS_MOST_INPUTS], margins[MARGINS_MOST_INPUTS];
+    int64_t wide_strays[MARGINS_MOST_INPUTS]; /* with them the domain is refused */
     _Alignas(64) char text[MOST_TEXT];
     size_t text_length; /* 0: it has no text */
     uint32_t decimals;

@@ -1,5 +1,6 @@
 /* Packed formulas run on readings, each figure with an honest margin; and packed from lists or from a text, and read back into lists. A
- * figure is printed as a decimal number, and a decimal number is read as a reading, with the rounding in the margin.
+ * figure is printed as a decimal number, and a decimal number is read as a reading, with the rounding in the margin. Of a domain that is not
+ * admitted, how far it must shrink.
  *
  * Every function may be called with any bytes, any numbers and lists of any length: it answers or refuses, and a refusal
  * writes no output. Nothing has to be checked first. A list is a pointer and the number of its places. Where that number is 0 the
@@ -55,7 +56,8 @@ extern "C" {
 /* Why there is no answer. A refusal is one of these numbers, 0 is none; a later library may give further ones. 9 is not given any more.
  * They are tested in this order: 1 to 8 and 16 field by field, 13 to 15, 10, then instruction by instruction 17 and 11; of a text 3 and 4,
  * then 18 and 19 byte by byte, then instruction by instruction 4 and 7, then 10; of a ball to be printed 3, 27, 26, then 10; of a decimal
- * number with its margin 3, 24, 25, 26, then 10. Where nothing is said of `place` it is 0. */
+ * number with its margin 3, 24, 25, 26, then 10; of a domain to be explained 1 to 8 and 16 field by field, then 13 to 15. Where nothing is
+ * said of `place` it is 0. */
 enum {
     MARGINS_DONE = 0,
     MARGINS_REFUSED_ENDED = 1,              /* the bytes end inside a field */
@@ -86,9 +88,10 @@ enum {
     MARGINS_REFUSED_NO_ROOM = 10,           /* a list to be written is too short */
     MARGINS_REFUSED_MAY_BE_ZERO = 17,       /* instruction `place`, counted from 0, is a reciprocal of what may be 0: its operand is 0, or
                                              * its margin, with the stray in an admission, reaches 0. Keep it away from 0, or shrink the
-                                             * margins or the domain, so that |centre| is over margin plus stray */
+                                             * margins or the domain, so that |centre| is over margin plus stray. Of a domain
+                                             * margins_explain tells how far */
     MARGINS_REFUSED_OUT_OF_REACH = 11,      /* the result of instruction `place`, counted from 0, is out of reach: shrink the readings
-                                             * or the domain, or use a smaller scale */
+                                             * or the domain, or use a smaller scale. Of a domain margins_explain tells how far */
     MARGINS_REFUSED_FORM = 12               /* the program's input has another form; no function gives it */
 };
 
@@ -156,6 +159,24 @@ typedef struct {
     uint64_t place;
 } margins_packed;
 
+/* What margins_explain answers. */
+enum {
+    MARGINS_NOTHING_TO_EXPLAIN = 1, /* the domain is admitted as it is */
+    MARGINS_ADMITTED_TO = 2,        /* it is admitted with every stray and margin shrunk to `parts` of 256, and refused at each greater t */
+    MARGINS_NEVER_ADMITTED = 3      /* it is refused even with every stray and margin 0: change the formula, the middles or the scale */
+};
+
+/* refusal 0: `answer` is one of these. Else the question could not be looked at, `answer` is 0, and place is the reading with
+ * MARGINS_REFUSED_NEGATIVE_MARGIN and MARGINS_REFUSED_READING_TOO_LARGE, 0 with the others. */
+typedef struct {
+    uint32_t refusal;
+    uint8_t answer; /* one of these, 0 with a refusal */
+    uint8_t parts;  /* with MARGINS_ADMITTED_TO the largest t of 256 that is admitted, 0 to 255; else 0 */
+    uint16_t met;   /* MARGINS_REFUSED_OUT_OF_REACH or MARGINS_REFUSED_MAY_BE_ZERO as it is met at parts + 1, or at 0 with
+                     * MARGINS_NEVER_ADMITTED; else 0 */
+    uint64_t place; /* with `met` its instruction, counted from 0 */
+} margins_explanation;
+
 /* One reading with its margin. */
 typedef struct {
     int64_t centre; /* what was read */
@@ -166,6 +187,7 @@ typedef struct {
 typedef char margins_reply_has_16_bytes[sizeof(margins_reply) == 16 ? 1 : -1];
 typedef char margins_formula_has_16_bytes[sizeof(margins_formula) == 16 ? 1 : -1];
 typedef char margins_packed_has_16_bytes[sizeof(margins_packed) == 16 ? 1 : -1];
+typedef char margins_explanation_has_16_bytes[sizeof(margins_explanation) == 16 ? 1 : -1];
 typedef char margins_reading_has_16_bytes[sizeof(margins_reading) == 16 ? 1 : -1];
 typedef char margins_double_has_8_bytes[sizeof(double) == 8 ? 1 : -1];
 
@@ -230,6 +252,15 @@ MARGINS_MUST_USE margins_reply margins_admit(
     int64_t *output_middles, size_t output_middles_length,   /* written: a middle for each output */
     uint64_t *output_strays, size_t output_strays_length,    /* written: the stray of its computed centre, for each output */
     uint64_t *output_margins, size_t output_margins_length); /* written: the static margin, for each output */
+
+/* Why margins_admit refuses a domain with 11 or 17, and how far it must shrink: at t of 256 every stray and margin x is x*t/256, rounded down,
+ * and the middles stay. A domain that is made no larger stays admitted, so that there is one largest t. It is found by halves, with at most 9
+ * admissions; nothing is lent. */
+MARGINS_MUST_USE margins_explanation margins_explain(
+    const uint8_t *formula, size_t formula_length,  /* read: the packed bytes */
+    const int64_t *middles, size_t middles_length,  /* read: the middle of the centres, one for each input */
+    const int64_t *strays, size_t strays_length,    /* read: how far a centre may be from it, one for each input; at least 0 */
+    const int64_t *margins, size_t margins_length); /* read: the largest margin of a reading, one for each input; at least 0 */
 
 /* A formula as lists. Instruction k has the code codes[k] and the fields firsts[k] and seconds[k]; it makes value inputs + k and may name
  * only smaller values. The outputs may name any value. */

@@ -1,7 +1,8 @@
 /* Runs framed cases from standard input and writes framed replies to standard output; frames.py, packing_frames.py, text_frames.py,
- * doubles_frames.py and decimal_frames.py tell the forms. Each list is allocated at exactly its length, so that a memory checker sees every
- * step beyond it. In half of the cases of packing, of texts, of doubles and of decimals sentinels stand behind each list that is written
- * instead, so that a step beyond is seen without a checker. */
+ * doubles_frames.py, decimal_frames.py and explaining_frames.py tell the forms. Each list is allocated at exactly its length, so that a memory
+ * checker sees every step beyond it. In half of the cases of packing, of texts, of doubles and of decimals sentinels stand behind each list
+ * that is written instead, and in half of those of explaining on both sides of each list that is read, so that a step beyond is seen without
+ * a checker. */
 #include "margins.h"
 
 #include <stdbool.h>
@@ -9,9 +10,10 @@
 #include <stdlib.h>
 #include <string.h>
 
-enum { CHECK, PLAIN, BALL, ADMIT, RECORDS, PACK, UNPACK, DOUBLES, TEXT, TO_DECIMAL, FROM_DECIMAL };
+enum { CHECK, PLAIN, BALL, ADMIT, RECORDS, PACK, UNPACK, DOUBLES, TEXT, TO_DECIMAL, FROM_DECIMAL, EXPLAIN };
 enum { CODES, FIRSTS, SECONDS, OUTPUTS, PACKING_LISTS };
 enum { CENTRES, MARGINS, DECIMAL_LISTS };
+enum { MIDDLES, STRAYS, DOMAIN_MARGINS, DOMAIN_LISTS };
 enum { MOST_PARTS = 3, BEHIND = 8, BUFFER = 1 << 20 };
 
 typedef struct {
@@ -420,6 +422,49 @@ static void from_decimal_case(size_t number)
     free_formula(margin);
 }
 
+/* A list that is only read, and all that stands there before and after. */
+typedef struct {
+    list in, whole, kept;
+} watched;
+
+static watched watch_list(size_t list_number, size_t around)
+{
+    watched w = {.in.length = take_length()};
+    w.whole.length = w.in.length + 2 * around;
+    w.whole.places = allocate(bytes_of(w.whole));
+    for (size_t i = 0; i < w.whole.length; i++) {
+        uint64_t held = sentinel(list_number, i);
+        memcpy(&w.whole.places[i], &held, sizeof held);
+    }
+    w.in.places = w.whole.length ? w.whole.places + around : NULL;
+    take(w.in.places, bytes_of(w.in));
+    w.kept = copy_list(w.whole);
+    return w;
+}
+
+static void explain_case(size_t number)
+{
+    watched lists[DOMAIN_LISTS];
+    packed formula = take_formula(number);
+    for (size_t i = 0; i < DOMAIN_LISTS; i++)
+        lists[i] = watch_list(i, places_behind(number));
+    const list middles = lists[MIDDLES].in, strays = lists[STRAYS].in, margins = lists[DOMAIN_MARGINS].in;
+
+    margins_explanation answer = margins_explain(formula.bytes, formula.length, middles.places, middles.length,
+                                                 strays.places, strays.length, margins.places, margins.length);
+    give(&answer, sizeof answer);
+    uint8_t intact = same(formula.bytes, formula.kept, formula.length);
+    for (size_t i = 0; i < DOMAIN_LISTS; i++)
+        intact = intact && same(lists[i].whole.places, lists[i].kept.places, bytes_of(lists[i].whole));
+    give(&intact, sizeof intact);
+
+    for (size_t i = 0; i < DOMAIN_LISTS; i++) {
+        free(lists[i].whole.places);
+        free(lists[i].kept.places);
+    }
+    free_formula(formula);
+}
+
 int main(void)
 {
     setvbuf(stdin, NULL, _IOFBF, BUFFER);
@@ -438,6 +483,8 @@ int main(void)
             to_decimal_case(number);
         else if (job == FROM_DECIMAL)
             from_decimal_case(number);
+        else if (job == EXPLAIN)
+            explain_case(number);
         else if (job <= RECORDS)
             run_case(job, number);
         else

@@ -1,5 +1,5 @@
-"""A second evaluator, written from document 01 and document 02's requests b, c, e, f and g: the three runs in exact integers and fractions,
-the ball's outputs as fractions, and exact arithmetic on fractions.
+"""A second evaluator, written from document 01 and document 02's requests b, c, e, f, g and i: the three runs in exact integers and
+fractions, the ball's outputs as fractions, exact arithmetic on fractions, and a refused domain explained by trying every t.
 
 A value is a tuple: (x,) in a plain run, (centre, margin) in a ball run, (middle, stray, margin) in an admission.
 """
@@ -11,6 +11,10 @@ from math import ceil, floor
 import reader
 
 M = 2147483647
+# Of these parts a domain that shrinks keeps t.
+ALL_PARTS = 256
+# Lent lists that have room for every formula.
+ENOUGH = (528, 528, 528, 16, 16, 16)
 
 formula = lru_cache(maxsize=16)(reader.formula)
 
@@ -164,6 +168,25 @@ def ball_doubles(data, readings, lengths):
     refusal, place, values, outputs = ball(data, readings, lengths)
     unit = 1 if refusal else 1 << formula(data)[0][0]
     return refusal, place, values, [(Fraction(centre, unit), Fraction(margin, unit)) for centre, margin in outputs]
+
+
+def at_part(t, readings):
+    """The domain with every stray and margin its t/256, rounded down."""
+    middles, *doubts = readings
+    return (middles, *(tuple(number * t // ALL_PARTS for number in numbers) for numbers in doubts))
+
+
+def admissions(data, readings):
+    """The refusal, 0 for none, its place and the outputs at each t from 0 to 256. The same domain, which small numbers give at several t, gets
+    the same answer."""
+    known, found = {}, []
+    for t in range(ALL_PARTS + 1):
+        narrow = at_part(t, readings)
+        if narrow[1:] not in known:
+            refusal, place, _, outputs = admit(data, narrow, ENOUGH)
+            known[narrow[1:]] = refusal, place, outputs
+        found.append(known[narrow[1:]])
+    return found
 
 
 def centre_of(scale, centre, _margin):

@@ -10,6 +10,8 @@ import decimal_cases
 import decimal_frames
 import doubles_cases
 import doubles_frames
+import explaining_cases
+import explaining_frames
 import frames
 import packing_cases
 import packing_frames
@@ -23,6 +25,7 @@ RANDOM_PACKING = 4000
 RANDOM_DOUBLES = 4000
 RANDOM_TEXTS = 4000
 RANDOM_DECIMALS = 4000
+RANDOM_EXPLAINING = 4000
 CHECKER = ["valgrind", "--quiet", "--error-exitcode=9", "--leak-check=full"]
 
 
@@ -80,6 +83,12 @@ def random_decimal(rng):
     return decimal_frames.Out(scale, decimals, centre, margin, places, rng.randrange(60))
 
 
+def random_domain(rng):
+    """Any bytes, any numbers in lists of any length."""
+    some = random_case(rng, ("admit",))
+    return explaining_frames.Case(some.data, some.readings)
+
+
 def survived(driver, form, some):
     """Whether the driver gives the replies that it should to these cases, and the checker finds nothing."""
     asked = b"".join(map(form.asked, some))
@@ -99,7 +108,11 @@ def main(driver):
     doubles = list(islice(doubles_cases.all_cases(), 0, None, EVERY)) + [random_case(rng, ("ball",)) for _ in range(RANDOM_DOUBLES)]
     read = list(islice(text_cases.all_cases(), 0, None, EVERY)) + [random_text(rng) for _ in range(RANDOM_TEXTS)]
     decimals = list(islice(decimal_cases.all_cases(), 0, None, EVERY)) + [random_decimal(rng) for _ in range(RANDOM_DECIMALS)]
-    parts = ((frames, runs), (packing_frames, packing), (doubles_frames, doubles), (text_frames, read), (decimal_frames, decimals))
+    explained = list(islice(explaining_cases.all_cases(), 0, None, EVERY)) + [random_domain(rng) for _ in range(RANDOM_EXPLAINING)]
+    parts = (
+        *((frames, runs), (packing_frames, packing), (doubles_frames, doubles), (text_frames, read), (decimal_frames, decimals)),
+        (explaining_frames, explained),
+    )
     good = [survived(driver, *some) for some in parts]
     print(f"{good.count(True)} passed, {good.count(False)} failed")
     return 0 if all(good) else 1

@@ -1,6 +1,6 @@
 /* A first program with margins.h: one formula checked, run on readings, its figures printed and given as doubles, admitted for a whole
- * domain, packed from lists and from its text, and read back; then a weight that was rounded, a quotient, and decimal numbers out and in. At
- * scale 4 a unit is 1/16. The formula is x*y + x. */
+ * domain, refused domains explained, packed from lists and from its text, and read back; then a weight that was rounded, a quotient, and
+ * decimal numbers out and in. At scale 4 a unit is 1/16. The formula is x*y + x. */
 #include <inttypes.h>
 #include <stdbool.h>
 #include <stdio.h>
@@ -189,6 +189,25 @@ static void admit(const int64_t middles[2], const int64_t strays[2], const int64
                output_strays[0], output[0], output_margins[0]);
 }
 
+/* What of the domain is admitted; it is admitted then. */
+static void explain(const int64_t middles[2], const int64_t strays[2], const int64_t margins[2], size_t count)
+{
+    margins_explanation found = margins_explain(formula, sizeof formula, middles, 2, strays, count, margins, 2);
+    const int64_t t = found.parts;
+    switch (found.answer) {
+    case MARGINS_NOTHING_TO_EXPLAIN: printf("explain: nothing to explain\n"); break;
+    case MARGINS_ADMITTED_TO:
+        printf("explain: admitted to %u of 256, then %s, at instruction %" PRIu64 "\n", (unsigned)found.parts,
+               margins_refusal_text(found.met), found.place);
+        admit(middles, (const int64_t[]){strays[0] * t / 256, strays[1] * t / 256}, (const int64_t[]){margins[0] * t / 256, margins[1] * t / 256});
+        break;
+    case MARGINS_NEVER_ADMITTED:
+        printf("explain: never admitted, %s, at instruction %" PRIu64 "\n", margins_refusal_text(found.met), found.place);
+        break;
+    default: tell_refusal("explain", (margins_reply){found.refusal, 0, found.place});
+    }
+}
+
 /* x is value 0 and y value 1; value 2 is their product, and value 3 is that plus x. */
 static void pack(int64_t scale, size_t length)
 {
@@ -292,6 +311,17 @@ static void try_runs(void)
     admit((const int64_t[]){24, -10}, (const int64_t[]){3, -2}, (const int64_t[]){1, 1});
 }
 
+static void try_explaining(void)
+{
+    explain((const int64_t[]){24, -10}, (const int64_t[]){3, 2}, (const int64_t[]){1, 1}, 2);
+    explain((const int64_t[]){24, -10}, (const int64_t[]){3000000, 2000000}, (const int64_t[]){1, 1}, 2);
+    explain((const int64_t[]){1073741823, 16}, (const int64_t[]){300, 0}, (const int64_t[]){0, 0}, 2);
+    explain((const int64_t[]){1073741824, 16}, (const int64_t[]){300, 0}, (const int64_t[]){0, 0}, 2);
+    explain((const int64_t[]){24, -10}, (const int64_t[]){3, 2}, (const int64_t[]){1, 1}, 1);
+    explain((const int64_t[]){24, -10}, (const int64_t[]){3, -2}, (const int64_t[]){1, 1}, 2);
+    explain((const int64_t[]){2147483647, -10}, (const int64_t[]){3, 2}, (const int64_t[]){1, 1}, 2);
+}
+
 static void try_packing(void)
 {
     pack(4, MARGINS_MOST_BYTES);
@@ -342,6 +372,7 @@ static void try_decimals(void)
 int main(void)
 {
     try_runs();
+    try_explaining();
     try_packing();
     try_decimals();
     for (uint32_t refusal = 0; refusal <= MARGINS_REFUSED_DECIMALS + 1; refusal++)

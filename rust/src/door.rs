@@ -1,6 +1,6 @@
 //! The C functions of `include/margins.h`, each called once. A slice is what they ask of a list: memory that is there, aligned and,
 //! where it is written, disjoint from every other.
-use crate::{Decimal, Formula, LentBalls, LentDoubles, LentInstructions, LentMatryoshki, Reading, Refusal, Refused};
+use crate::{Decimal, Explanation, Formula, LentBalls, LentDoubles, LentInstructions, LentMatryoshki, Reading, Refusal, Refused};
 
 #[repr(C)]
 struct Reply {
@@ -24,6 +24,18 @@ struct Packed {
     bytes: u32,
     place: u64,
 }
+
+#[repr(C)]
+struct Explained {
+    refusal: u32,
+    answer: u8,
+    parts: u8,
+    met: u16,
+    place: u64,
+}
+
+/// The answer that has parts; that of the others is told by whether something was met.
+const ADMITTED_TO: u8 = 2;
 
 // Each list's pointer beside its length.
 #[rustfmt::skip]
@@ -73,6 +85,12 @@ extern "C" {
         output_strays: *mut u64, output_strays_length: usize,
         output_margins: *mut u64, output_margins_length: usize,
     ) -> Reply;
+    fn margins_explain(
+        formula: *const u8, formula_length: usize,
+        middles: *const i64, middles_length: usize,
+        strays: *const i64, strays_length: usize,
+        margins: *const i64, margins_length: usize,
+    ) -> Explained;
     fn margins_pack(
         scale: i64, inputs: i64,
         codes: *const i64, codes_length: usize,
@@ -139,6 +157,17 @@ fn packed(reply: Packed) -> Result<usize, Refused> {
         None => Ok(reply.bytes as usize),
         Some(refused) => Err(refused),
     }
+}
+
+fn explained(reply: Explained) -> Result<Explanation, Refused> {
+    if let Some(refused) = refused(reply.refusal, reply.place) {
+        return Err(refused);
+    }
+    Ok(match refused(reply.met.into(), reply.place) {
+        None => Explanation::NothingToExplain,
+        Some(met) if reply.answer == ADMITTED_TO => Explanation::AdmittedTo { parts: reply.parts, met },
+        Some(met) => Explanation::NeverAdmitted { met },
+    })
 }
 
 pub fn check(formula: &[u8]) -> Result<Formula, Refused> {
@@ -253,6 +282,21 @@ pub fn admit(
     })
 }
 
+pub fn explain(formula: &[u8], middles: &[i64], strays: &[i64], margins: &[i64]) -> Result<Explanation, Refused> {
+    explained(unsafe {
+        margins_explain(
+            formula.as_ptr(),
+            formula.len(),
+            middles.as_ptr(),
+            middles.len(),
+            strays.as_ptr(),
+            strays.len(),
+            margins.as_ptr(),
+            margins.len(),
+        )
+    })
+}
+
 pub fn pack(
     scale: i64, inputs: i64, codes: &[i64], firsts: &[i64], seconds: &[i64], outputs: &[i64], formula: &mut [u8],
 ) -> Result<usize, Refused> {
@@ -348,6 +392,35 @@ mod tests {
             assert_eq!(told(Reply { refusal: number, outputs: 0, place: u64::MAX }), Err(expected));
             assert_eq!(checked_with(number), Err(expected));
             assert_eq!(packed(Packed { refusal: number, bytes: 0, place: u64::MAX }), Err(expected));
+        }
+    }
+
+    #[test]
+    fn an_explanation_lies_as_the_header_says() {
+        use core::mem::{offset_of, size_of};
+        let places = [
+            offset_of!(Explained, refusal),
+            offset_of!(Explained, answer),
+            offset_of!(Explained, parts),
+            offset_of!(Explained, met),
+            offset_of!(Explained, place),
+        ];
+        assert_eq!((places, size_of::<Explained>()), ([0, 4, 5, 6, 8], 16));
+        let sizes = [size_of::<Reply>(), size_of::<Checked>(), size_of::<Packed>(), size_of::<Reading>()];
+        assert_eq!(sizes, [16; 4]);
+    }
+
+    #[test]
+    fn each_answer_is_told_and_each_refusal_before_it() {
+        let reply = |refusal, answer, parts, met| explained(Explained { refusal, answer, parts, met, place: 3 });
+        assert_eq!(reply(0, 1, 0, 0), Ok(Explanation::NothingToExplain));
+        for number in [11, 17] {
+            let met = refused(number, 3).unwrap();
+            assert_eq!(reply(0, 2, 255, number as u16), Ok(Explanation::AdmittedTo { parts: 255, met }));
+            assert_eq!(reply(0, 3, 0, number as u16), Ok(Explanation::NeverAdmitted { met }));
+        }
+        for number in (1..=8).chain([13, 14, 15, 16, 20, u32::MAX]) {
+            assert_eq!(reply(number, 0, 0, 0), Err(refused(number, 3).unwrap()));
         }
     }
 

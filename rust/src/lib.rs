@@ -1,12 +1,13 @@
 //! Packed formulas run on readings, each figure with an honest margin.
 //!
 //! A formula is a string of bytes. [`check`] says whether bytes are one; [`plain`] runs it on bare readings, [`ball`] on readings with a
-//! margin each, [`ball_doubles`] as [`ball`] with its figures as doubles, [`admit`] once on a whole domain. [`pack_text`] makes the bytes of
-//! a formula as people write it, [`pack`] those of lists of instructions and outputs, [`unpack`] the lists of bytes. [`to_decimal`] prints a
-//! figure with its margin, [`from_decimal`] reads a decimal number with its margin as a reading. Every function may be called with any
-//! bytes, any numbers and lists of any length: it answers or refuses, and a refusal writes no output. [`Refused`] says why and, where it is
-//! about one of them, which reading, instruction or byte of a text. Readings, constants and results, but for those doubles, the numbers of a
-//! text and decimal numbers, are whole counts of one unit, 2^-F, where F is the formula's scale.
+//! margin each, [`ball_doubles`] as [`ball`] with its figures as doubles, [`admit`] once on a whole domain; [`explain`] says of a domain that
+//! [`admit`] refuses how far it must shrink. [`pack_text`] makes the bytes of a formula as people write it, [`pack`] those of lists of
+//! instructions and outputs, [`unpack`] the lists of bytes. [`to_decimal`] prints a figure with its margin, [`from_decimal`] reads a decimal
+//! number with its margin as a reading. Every function may be called with any bytes, any numbers and lists of any length: it answers or
+//! refuses, and a refusal writes no output. [`Refused`] says why and, where it is about one of them, which reading, instruction or byte of a
+//! text. Readings, constants and results, but for those doubles, the numbers of a text and decimal numbers, are whole counts of one unit,
+//! 2^-F, where F is the formula's scale.
 //!
 //! The caller lends the memory: a work list needs a place for each value, an output list one for each output. [`Balls`] and [`Matryoshki`]
 //! have room for every formula, [`Doubles`] for the outputs of every formula; [`check`] tells what one formula needs. After an answer the
@@ -79,6 +80,25 @@ pub struct Decimal {
     pub bytes: usize,
 }
 
+/// How far a domain must shrink, and what it meets beyond that: what [`explain`] answers.
+#[derive(Clone, Copy, Debug, PartialEq, Eq, Hash)]
+pub enum Explanation {
+    /// The domain is admitted as it is.
+    NothingToExplain,
+    /// It is admitted with every stray and margin shrunk to `parts` of 256, and refused at each greater t.
+    AdmittedTo {
+        /// The largest t that is admitted.
+        parts: u8,
+        /// What is met at the next t: [`Refusal::OutOfReach`] or [`Refusal::MayBeZero`] with its instruction.
+        met: Refused,
+    },
+    /// It is refused even with every stray and margin 0: the formula, the middles or the scale must change.
+    NeverAdmitted {
+        /// What is met at 0: [`Refusal::OutOfReach`] or [`Refusal::MayBeZero`] with its instruction.
+        met: Refused,
+    },
+}
+
 /// Whether these bytes are a formula, and what its header says.
 ///
 /// Lists of just the places that the formula needs:
@@ -146,6 +166,31 @@ pub fn admit(
     formula: &[u8], middles: &[i64], strays: &[i64], margins: &[i64], work: LentMatryoshki<'_>, output: LentMatryoshki<'_>,
 ) -> Result<usize, Refused> {
     door::admit(formula, middles, strays, margins, work, output)
+}
+
+/// Why [`admit`] refuses a domain with [`Refusal::OutOfReach`] or [`Refusal::MayBeZero`], and how far it must shrink.
+///
+/// At t of 256 every stray and margin x is x·t/256, rounded down, and the middles stay. A domain that is made no larger stays admitted, so
+/// that there is one largest t. Nothing is lent. The refusals are those of the bytes and then [`Refusal::ReadingCount`],
+/// [`Refusal::NegativeMargin`] and [`Refusal::ReadingTooLarge`], as in [`admit`].
+///
+/// ```
+/// use margins::{admit, explain, Explanation, Matryoshki};
+/// # let formula = [0x02, 0x41, 0x00, 0x41, 0x80, 0x00, 0x02, 0x80, 0x20, 0x00, 0x03];
+/// let (middles, strays, margins) = ([24, -10], [3000000, 2000000], [1, 1]);
+/// let Explanation::AdmittedTo { parts, met } = explain(&formula, &middles, &strays, &margins)? else { panic!() };
+/// assert_eq!((parts, met.refusal.number(), met.place), (19, 11, Some(0)));
+///
+/// let (mut work, mut output) = (Matryoshki::default(), Matryoshki::default());
+/// let at = |t: i64| (strays.map(|stray| stray * t / 256), margins.map(|margin| margin * t / 256));
+/// let (smaller, margins) = at(19);
+/// admit(&formula, &middles, &smaller, &margins, work.lent(), output.lent())?;
+/// let (larger, margins) = at(20);
+/// assert_eq!(admit(&formula, &middles, &larger, &margins, work.lent(), output.lent()), Err(met));
+/// # Ok::<(), margins::Refused>(())
+/// ```
+pub fn explain(formula: &[u8], middles: &[i64], strays: &[i64], margins: &[i64]) -> Result<Explanation, Refused> {
+    door::explain(formula, middles, strays, margins)
 }
 
 /// Packs lists into the first places of `formula`; the answer is how many bytes it has.

@@ -25,7 +25,8 @@ pub enum Refusal {
     Padding,
     /// 10: a list to be written is too short.
     NoRoom,
-    /// 11: a step's result is out of reach. The place is the instruction, from 0.
+    /// 11: a step's result is out of reach. The place is the instruction, from 0. Of a domain [`explain`](crate::explain) tells how far it must
+    /// shrink.
     OutOfReach,
     /// 13: the number of readings isn't that of the inputs.
     ReadingCount,
@@ -37,6 +38,7 @@ pub enum Refusal {
     ReciprocalScale,
     /// 17: a reciprocal of what may be 0: its operand is 0, or its margin, with the stray in [`admit`](crate::admit), reaches 0. Keep it away
     /// from 0, or shrink the margins or the domain, so that |centre| is over margin plus stray. The place is the instruction, from 0.
+    /// Of a domain [`explain`](crate::explain) tells how far it must shrink.
     MayBeZero,
     /// 18: no formula's text that begins as this one has this byte there, or the text ends too early. The place is the byte, from 0, or the
     /// text's length where it ends too early; what stands before it is good.

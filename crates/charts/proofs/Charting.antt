@@ -1,15 +1,14 @@
 -- The chart's run in the code's shape: it is the ball run in lists that are long enough, then the doubles of its outputs. Assumes nothing.
 use mathlib.Core.Path.{_≡_, refl, sym, _∙_, ap, ap₂, subst}
-use mathlib.Core.Bool.{Bool, true, false, cond}
 use mathlib.Core.List.{List}
 use Prim.Native.Nat.{ℕ, _≤_}
 use native.Mathlib.Omega.{arith}
-use lib.Dec.{leb}
 use lib.Ieee.{Float}
 use lib.IntN.{ℤ}
 use lib.ListN.{length, getD, length-map}
 use Rattle.whole.proofs.Cases.{by-case}
 use Rattle.lists.specs.Over.{least}
+use Rattle.lists.proofs.Over.{both-least}
 use Rattle.lists.specs.All.{All}
 use Rattle.refusals.specs.declared.Refusal.{Refusal}
 use Rattle.refusals.specs.declared.Reply.{Reply}
@@ -71,15 +70,6 @@ module _ {s : List ℕ} {given : BallReadings} (wc : List ℤ) (wm : List ℕ) (
       unstarted : (a : Placed (Started ball-kind)) → started-header ball-kind a ≡ refuse-at q k → a ≡ refuse-at q k
       unstarted (value st) e = absurd (no-value (sym e))
       unstarted (refused n) e = same-refusal e
-
--- both lists have so many places, so the two have
-enough : (n a b : ℕ) → n ≤ a → n ≤ b → n ≤ least a b
-unfolding least
-enough n a b p q = by-test (leb a b)
-  where
-    by-test : (t : Bool) → n ≤ cond t a b
-    by-test true = p
-    by-test false = q
 
 -- an answer is that of a job that is done
 pub answers-done : {A : Type 0} {n : ℕ} (j : Result A) → answered n ≡ said j → (j ≡ done (work-of j) (outputs-of j)) × (length (outputs-of j) ≡ n)
@@ -174,7 +164,7 @@ module _ {s : List ℕ} {h : Header} {given : BallReadings} {work : BallLists} {
         scale-is = sym (ap (λ (f : Formula). f .header .scale) (meant-is s (b .started .means)) ∙ ap (λ (g : Header). g .scale) (b .is-header))
 
 local-places : (xs : List ℤ) (ys : List ℕ) → length xs ≡ 16 → length ys ≡ 16 → 16 ≤ ball-kind .room (ball-lists xs ys)
-local-places xs ys p q = enough 16 (length xs) (length ys) (omega (arith, p)) (omega (arith, q))
+local-places xs ys p q = both-least 16 (length xs) (length ys) (omega (arith, p)) (omega (arith, q))
 
 -- the same, as the code has it: local lists of 16 places; the facts that share most with a goal come first
 module _ {s : List ℕ} {h : Header} {given : BallReadings} {wc : List ℤ} {wm : List ℕ} {oc om : List Float} {xs : List ℤ} {ys : List ℕ} where

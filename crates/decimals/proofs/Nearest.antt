@@ -6,15 +6,15 @@ use Prim.Native.Nat.{ℕ, suc, _+_, _-_, _*_, _/_, _%_, _^_, _≤_, _<_}
 use native.Mathlib.Nat.{div-le-self, div-mul-le-self, lt-div-mul-add}
 use native.Mathlib.Omega.{arith}
 use borrow.Author.Tests.{ltb-true, eq-eqb, ne-eqb}
-use lib.IntN.{ℤ, pos, negsuc, negℤ, natAbs, _+ℤ_, _-ℤ_, _*ℤ_, +ℤ-idl}
+use lib.IntN.{ℤ, pos, negsuc, negℤ, natAbs, _+ℤ_, _-ℤ_, _*ℤ_}
 use lib.Signed.{ltZ, shrZ}
 use mir.Syntax.{w64}
 use mir.Val.{SFits, toZ}
 use mir.ValLaws.{toZ-ofZ, toZ-pos}
 use Rattle.whole.proofs.Floor.{floor-unique}
-use Rattle.whole.proofs.Machine.{back, back-is, fits-size}
+use Rattle.whole.proofs.Machine.{back}
+use Rattle.whole.proofs.Minus.{minus-fits, minus-back}
 use Rattle.whole.proofs.Ring.{ring, neg, _⊕_, _⊖_, _⊗_, x₀, x₁, x₂, x₃}
-use Rattle.whole.proofs.Size.{size-neg}
 use Rattle.decimals.specs.In.{Dividing, nearest, unless-divides}
 
 -- ---- by the size alone
@@ -63,15 +63,8 @@ nearest-below (negsuc n) t some b = ap (λ (z : ℤ). shrZ z (2 * t)) same ∙ f
 pub quotient-small : {size t : ℕ} → Dividing size t → (less : ℕ) → (2 * size + (t - less)) / (2 * t) < 2 ^ 62
 quotient-small {size} {t} d less = omega (arith, d .dividend, d .most, div-le-self (2 * size + (t - less)) (2 * t))
 
--- 0 − n
-negated : (n : ℕ) → n < 2 ^ 62 → pos 0 -ℤ toZ w64 n ≡ negℤ (pos n)
-negated n l = ap (λ (z : ℤ). pos 0 -ℤ z) (toZ-pos w64 n (omega arith)) ∙ +ℤ-idl (negℤ (pos n))
-
-negated-size : (n : ℕ) → n < 2 ^ 62 → natAbs (negℤ (pos n)) < 2 ^ 63
-negated-size n l = omega (arith, size-neg (pos n))
-
 pub negated-fits : {n : ℕ} → n < 2 ^ 62 → SFits w64 (pos 0 -ℤ toZ w64 n)
-negated-fits {n} l = rw (negated n l) (fits-size (negated-size n l))
+negated-fits {n} l = minus-fits {n = n} (omega arith)
 
 module _ {z : ℤ} (f : SFits w64 z) {s : ℕ} (size : s ≡ natAbs (back z)) where
   kept : back z ≡ z
@@ -86,7 +79,7 @@ module _ {z : ℤ} (f : SFits w64 z) {s : ℕ} (size : s ≡ natAbs (back z)) wh
   module _ {t : ℕ} (d : Dividing (natAbs z) t) {k : ℕ} (small : k < 2 ^ 62) where
     pub centre-below : ltZ (back z) (pos 0) ≡ true → k ≡ (2 * s + (t - 1)) / (2 * t) → back (pos 0 -ℤ toZ w64 k) ≡ nearest z t
     centre-below b e =
-        ap back (negated k small) ∙ back-is (negℤ (pos k)) (negated-size k small)
+        minus-back {n = k} (omega (arith, small))
         ∙ rw (nearest-below z t (d .some) (rw kept at b), size-is, ← e)
 
     pub centre-above : ltZ (back z) (pos 0) ≡ false → k ≡ (2 * s + (t - 0)) / (2 * t) → toZ w64 k ≡ nearest z t

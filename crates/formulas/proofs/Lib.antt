@@ -2,6 +2,8 @@
 pub mod Walks
 pub mod Relations
 pub mod Enclosure
+pub mod Following
+pub mod Bare
 pub mod Covering
 pub mod Judging
 pub mod Fitting

@@ -51,6 +51,14 @@ least-both n a b l = by-test (leb a b) refl l
     by-test true e l = let m = leb-true a b e in (l, omega arith)
     by-test false e l = let m = leb-false a b e in (omega arith, l)
 
+pub both-least : (n a b : ℕ) → n ≤ a → n ≤ b → n ≤ least a b
+unfolding least
+both-least n a b p q = by-test (leb a b)
+  where
+    by-test : (t : Bool) → n ≤ cond t a b
+    by-test true = p
+    by-test false = q
+
 pub least-left : {a b : ℕ} → a ≤ b → a ≡ least a b
 unfolding least
 least-left {a} {b} l = ap (λ (t : Bool). cond t a b) (sym (le-leb a b l))

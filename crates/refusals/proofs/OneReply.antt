@@ -1,9 +1,12 @@
 -- A number stands for one refusal alone, and what is said for one reply: a contract that fixes the one fixes the other. Assumes nothing.
 use mathlib.Core.Path.{_≡_, refl, sym, _∙_, ap, ap₂}
+use mathlib.Core.Bool.{Bool, true, false}
 use mathlib.Core.List.{List, [], _∷_}
-use Prim.Native.Nat.{ℕ}
+use Prim.Native.Nat.{ℕ, _<_}
 use native.Mathlib.Omega.{arith}
-use lib.ListN.{getD}
+use borrow.Author.Tests.{leb-true, leb-false}
+use lib.Dec.{leb}
+use lib.ListN.{getD, List·getD-eq-default}
 use Rattle.refusals.specs.declared.Refusal.{Refusal}
 use Rattle.refusals.specs.declared.Refusal.the-variants.{Ended, Version, Scale, Count, Code, Operand, Constant, Padding, NoRoom, OutOfReach, AnotherForm, ReadingCount, NegativeMargin, ReadingTooLarge, ReciprocalScale, MayBeZero, Misplaced, TooDeep, NumberText, MarginText, BallReach, DecimalPlaces}
 use Rattle.refusals.specs.declared.Reply.{Reply}
@@ -23,7 +26,10 @@ in-order =
     ∷ ReadingCount ∷ NegativeMargin ∷ ReadingTooLarge ∷ ReciprocalScale ∷ MayBeZero ∷ Misplaced ∷ TooDeep
     ∷ Ended ∷ Ended ∷ Ended ∷ Ended ∷ NumberText ∷ MarginText ∷ BallReach ∷ DecimalPlaces ∷ []
 
-number-back : (r : Refusal) → getD in-order (refusal-number r) Ended ≡ r
+abbrev pub refusal-of : ℕ → Refusal
+refusal-of n = getD in-order n Ended
+
+pub number-back : (r : Refusal) → refusal-of (refusal-number r) ≡ r
 number-back Ended = refl
 number-back Version = refl
 number-back Scale = refl
@@ -48,7 +54,7 @@ number-back BallReach = refl
 number-back DecimalPlaces = refl
 
 pub same-number : (q r : Refusal) → refusal-number q ≡ refusal-number r → q ≡ r
-same-number q r e = sym (number-back q) ∙ ap (λ (n : ℕ). getD in-order n Ended) e ∙ number-back r
+same-number q r e = sym (number-back q) ∙ ap refusal-of e ∙ number-back r
 
 -- answers that refuse alike refuse for one reason
 abbrev number-in : {A : Type 0} → Answer A → ℕ
@@ -57,7 +63,18 @@ number-in (refused n) = n
 
 -- none has number 0
 pub never-zero : (r : Refusal) → refusal-number r ≡ 0 → ⊥
-never-zero r z = let e : 1 ≡ refusal-number r = ap refusal-number (sym (ap (λ (n : ℕ). getD in-order n Ended) z) ∙ number-back r) in omega arith
+never-zero r z = let e : 1 ≡ refusal-number r = ap refusal-number (sym (ap refusal-of z) ∙ number-back r) in omega arith
+
+-- each fits in a byte
+pub number-few : (r : Refusal) → refusal-number r < 256
+number-few r = by-test (leb 256 (refusal-number r)) refl
+  where
+    by-test : (t : Bool) → leb 256 (refusal-number r) ≡ t → refusal-number r < 256
+    by-test false u = leb-false 256 (refusal-number r) u
+    by-test true u =
+        let l = leb-true 256 (refusal-number r) u in
+        let e : refusal-number r ≡ 1 = ap refusal-number (sym (number-back r) ∙ List·getD-eq-default in-order Ended {n = refusal-number r} (omega arith)) in
+        omega arith
 
 pub one-refusal : {A : Type 0} {q r : Refusal} → _≡_ {A = Answer A} (refuse q) (refuse r) → q ≡ r
 one-refusal {q = q} {r = r} e = same-number q r (ap number-in e)

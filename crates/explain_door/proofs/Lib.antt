@@ -1,0 +1,2 @@
+-- What C is told of why a domain was refused.
+pub mod ExplainTelling

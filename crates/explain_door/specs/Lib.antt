@@ -1,0 +1,2 @@
+-- What C sees of why a domain was refused.
+pub mod ExplainDoors
