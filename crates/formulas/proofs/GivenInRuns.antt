@@ -113,15 +113,15 @@ matryoshka-refusing =
 
 module _ {A : Type 0} (rule : Operation A → Answer A) (d : A) where
   -- the instructions before, the one that is refused, and those after
-  record Stop (is : List Instruction) (vs : List A) (n : ℕ) (ws : List A) : Type 0 where
-    earlier : List Instruction
-    instruction : Instruction
-    later : List Instruction
-    in-order : is ≡ earlier ++ instruction ∷ later
-    carried-out : run rule d earlier vs ≡ finished ws
-    refuses-it : rule (with-values d ws instruction) ≡ refused n
+  pub record Stop (is : List Instruction) (vs : List A) (n : ℕ) (ws : List A) : Type 0 where
+    pub earlier : List Instruction
+    pub instruction : Instruction
+    pub later : List Instruction
+    pub in-order : is ≡ earlier ++ instruction ∷ later
+    pub carried-out : run rule d earlier vs ≡ finished ws
+    pub refuses-it : rule (with-values d ws instruction) ≡ refused n
 
-  stop-there : (is : List Instruction) (i : Instruction) (after : List Instruction) (vs : List A) {n : ℕ} {ws : List A}
+  pub stop-there : (is : List Instruction) (i : Instruction) (after : List Instruction) (vs : List A) {n : ℕ} {ws : List A}
       → run rule d is vs ≡ finished ws → rule (with-values d ws i) ≡ refused n → run rule d (is ++ i ∷ after) vs ≡ stopped n ws
   stop-there [] i after vs {n} {ws} e r =
       subst (λ (l : List A). onward l (λ k. run rule d after k) (rule (with-values d l i)) ≡ stopped n ws) (sym (same-values e))
@@ -135,7 +135,7 @@ module _ {A : Type 0} (rule : Operation A → Answer A) (d : A) where
       by-rule (value v) e rec = rec v e
       by-rule (refused m) e rec = absurd (never-stopped e)
 
-  stop-of : (is : List Instruction) (vs : List A) {n : ℕ} {ws : List A} → run rule d is vs ≡ stopped n ws → Stop is vs n ws
+  pub stop-of : (is : List Instruction) (vs : List A) {n : ℕ} {ws : List A} → run rule d is vs ≡ stopped n ws → Stop is vs n ws
   stop-of [] vs e = absurd (never-stopped (sym e))
   stop-of (i ∷ is) vs {n} {ws} e = by-rule (rule (with-values d vs i)) refl e (λ v k. stop-of is (vs ++ v ∷ []) k)
     where
@@ -163,6 +163,32 @@ module _ {A : Type 0} (rule : Operation A → Answer A) (d : A) where
             refuses-it = s .refuses-it;
           }
       by-rule (refused m) u e rec = here u (cc) (cc)
+
+-- ---- what a step divides by
+
+module _ {K : Kind} {T : Terms K} (refusing : Refusing K T) where
+  -- "17 .. if": the test, and the words
+  pub there-zero : (o : Operation (K .Value)) → divides-by-zero (refusing .may-be-zero) o ≡ true → DividesBy (T .MayBeZero) o
+  there-zero (Operation.constant c) e = never (sym e)
+  there-zero (Operation.negate v) e = never (sym e)
+  there-zero (Operation.add v w) e = never (sym e)
+  there-zero (Operation.subtract v w) e = never (sym e)
+  there-zero (Operation.multiply v w) e = never (sym e)
+  there-zero (Operation.coefficient c r) e = never (sym e)
+  there-zero (Operation.reciprocal v) e = reciprocal-of (refusing .tested-zero v e)
+
+  pub zero-there : {o : Operation (K .Value)} → DividesBy (T .MayBeZero) o → divides-by-zero (refusing .may-be-zero) o ≡ true
+  zero-there (reciprocal-of {a = v} z) = refusing .zero-tested v z
+
+  pub zero-none : {o : Operation (K .Value)} → divides-by-zero (refusing .may-be-zero) o ≡ false → DividesBy (T .MayBeZero) o → ⊥
+  zero-none e z = never (sym (zero-there z) ∙ e)
+
+  pub no-zero : (o : Operation (K .Value)) → (DividesBy (T .MayBeZero) o → ⊥) → divides-by-zero (refusing .may-be-zero) o ≡ false
+  no-zero o d = by-test (divides-by-zero (refusing .may-be-zero) o) refl
+    where
+      by-test : (t : Bool) → divides-by-zero (refusing .may-be-zero) o ≡ t → divides-by-zero (refusing .may-be-zero) o ≡ false
+      by-test true u = absurd (d (there-zero o u))
+      by-test false u = u
 
 -- ---- room
 
@@ -369,29 +395,6 @@ module _ {K : Kind} {T : Terms K} (law : Lawful K) (refusing : Refusing K T) (a 
   abbrev output : ℕ
   output = K .room (lent .output)
 
-  -- "17 .. if": the test, and the words
-  there-zero : (o : Operation (K .Value)) → divides-by-zero (refusing .may-be-zero) o ≡ true → DividesBy (T .MayBeZero) o
-  there-zero (Operation.constant c) e = never (sym e)
-  there-zero (Operation.negate v) e = never (sym e)
-  there-zero (Operation.add v w) e = never (sym e)
-  there-zero (Operation.subtract v w) e = never (sym e)
-  there-zero (Operation.multiply v w) e = never (sym e)
-  there-zero (Operation.coefficient c r) e = never (sym e)
-  there-zero (Operation.reciprocal v) e = reciprocal-of (refusing .tested-zero v e)
-
-  zero-there : {o : Operation (K .Value)} → DividesBy (T .MayBeZero) o → divides-by-zero (refusing .may-be-zero) o ≡ true
-  zero-there (reciprocal-of {a = v} z) = refusing .zero-tested v z
-
-  zero-none : {o : Operation (K .Value)} → divides-by-zero (refusing .may-be-zero) o ≡ false → DividesBy (T .MayBeZero) o → ⊥
-  zero-none e z = never (sym (zero-there z) ∙ e)
-
-  no-zero : (o : Operation (K .Value)) → (DividesBy (T .MayBeZero) o → ⊥) → divides-by-zero (refusing .may-be-zero) o ≡ false
-  no-zero o d = by-test (divides-by-zero (refusing .may-be-zero) o) refl
-    where
-      by-test : (t : Bool) → divides-by-zero (refusing .may-be-zero) o ≡ t → divides-by-zero (refusing .may-be-zero) o ≡ false
-      by-test true u = absurd (d (there-zero o u))
-      by-test false u = u
-
   has-short : {h : Header} → NoRoom K T h lent → Short h work output
   has-short {h} (work-short u) = inl (refusing .under-room (places h) (lent .work) u)
   has-short {h} (output-short u) = inr (refusing .under-room (h .outputs) (lent .output) u)
@@ -417,10 +420,10 @@ module _ {K : Kind} {T : Terms K} (law : Lawful K) (refusing : Refusing K T) (a 
       ap said (job-refused K a given work output (without-room law refusing a given work output p (has-short r)))
   given-in-run-refused (eleven p d c z l) =
       let r = long-enough d in
-      at-step-refused law refusing a given work output p (r .0) (r .1) c (too-far (no-zero (coming c) z) l)
+      at-step-refused law refusing a given work output p (r .0) (r .1) c (too-far (no-zero refusing (coming c) z) l)
   given-in-run-refused (seventeen p d c z) =
       let r = long-enough d in
-      at-step-refused law refusing a given work output p (r .0) (r .1) c (divides (zero-there z))
+      at-step-refused law refusing a given work output p (r .0) (r .1) c (divides (zero-there refusing z))
 
   -- where reading gives only its own numbers
   pub refused-given-in-run : {n k : ℕ} → ((m : ℕ) → a ≡ refused m → OfBytes m) → (OfBytes n → ⊥)
@@ -455,8 +458,8 @@ module _ {K : Kind} {T : Terms K} (law : Lawful K) (refusing : Refusing K T) (a 
       of-step : (p : Passed K a given) → (NoRoom K T (p .formula .header) lent → ⊥) → (c : Comes K (p .formula) (p .values) k) {m : ℕ}
           → StepRefused (refusing .may-be-zero) (T .reach) (coming c) (T .result (p .formula .header .scale) (coming c)) m
           → GivenInRun K T a given lent m k
-      of-step p d c (divides z) = seventeen p d c (there-zero (coming c) z)
-      of-step p d c (too-far z l) = eleven p d c (zero-none z) l
+      of-step p d c (divides z) = seventeen p d c (there-zero refusing (coming c) z)
+      of-step p d c (too-far z l) = eleven p d c (zero-none refusing z) l
 
       by-why : Why law refusing a given work output n k → GivenInRun K T a given lent n k
       by-why (early (by-bytes u z)) = absurd (other (few n u))

@@ -1,5 +1,6 @@
 -- What the definitions of a run and of a job entail.
 pub mod Walks
+pub mod Settled
 pub mod Relations
 pub mod Enclosure
 pub mod Following

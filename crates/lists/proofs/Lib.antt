@@ -5,5 +5,6 @@ pub mod Again
 pub mod OneWriting
 pub mod PartOf
 pub mod Each
+pub mod InTurn
 pub mod Joined
 pub mod Beginnings

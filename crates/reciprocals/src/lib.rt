@@ -9,7 +9,7 @@ ghost use Rattle.rules.specs.Numbers.{M, ceiling};
 ghost use Rattle.rules.specs.Reciprocals.{T, top-reciprocal-scale, Inverse, inexact};
 
 // T.
-fn square(scale: u32) -> u64
+pub fn square(scale: u32) -> u64
     requires { ⌜ scale ≤ top-reciprocal-scale ⌝ }
     ensures { λ r. ⌜ (r ≡ T scale) × (r ≤ 2 ^ 32) ⌝ }
 {

@@ -8,7 +8,7 @@ use borrow.Author.Tests.{leb-true, leb-false}
 use lib.Dec.{leb}
 use lib.ListN.{getD, List·getD-eq-default}
 use Rattle.refusals.specs.declared.Refusal.{Refusal}
-use Rattle.refusals.specs.declared.Refusal.the-variants.{Ended, Version, Scale, Count, Code, Operand, Constant, Padding, NoRoom, OutOfReach, AnotherForm, ReadingCount, NegativeMargin, ReadingTooLarge, ReciprocalScale, MayBeZero, Misplaced, TooDeep, NumberText, MarginText, BallReach, DecimalPlaces}
+use Rattle.refusals.specs.declared.Refusal.the-variants.{Ended, Version, Scale, Count, Code, Operand, Constant, Padding, NoRoom, OutOfReach, AnotherForm, ReadingCount, NegativeMargin, ReadingTooLarge, ReciprocalScale, MayBeZero, Misplaced, TooDeep, CardMisfit, MarginNotZero, NumberText, MarginText, BallReach, DecimalPlaces}
 use Rattle.refusals.specs.declared.Reply.{Reply}
 use Rattle.refusals.specs.declared.Reply.the-variants.{Done, Refused}
 use Rattle.refusals.specs.declared.Verdict.{Verdict}
@@ -19,12 +19,12 @@ use Rattle.refusals.specs.Places.{Where, Placed, refuse-at, verdict-says
 use Rattle.refusals.specs.Said.{Said, answered, refuses, reply-said}
 use Rattle.refusals.proofs.Answers.{no-value, refused-same}
 
--- place n has the refusal of number n; no refusal has number 0, 9 or 20 to 23
+-- place n has the refusal of number n; no refusal has number 0, 9, 21 or 23
 abbrev in-order : List Refusal
 in-order =
     Ended ∷ Ended ∷ Version ∷ Scale ∷ Count ∷ Code ∷ Operand ∷ Constant ∷ Padding ∷ Ended ∷ NoRoom ∷ OutOfReach ∷ AnotherForm
     ∷ ReadingCount ∷ NegativeMargin ∷ ReadingTooLarge ∷ ReciprocalScale ∷ MayBeZero ∷ Misplaced ∷ TooDeep
-    ∷ Ended ∷ Ended ∷ Ended ∷ Ended ∷ NumberText ∷ MarginText ∷ BallReach ∷ DecimalPlaces ∷ []
+    ∷ CardMisfit ∷ Ended ∷ MarginNotZero ∷ Ended ∷ NumberText ∷ MarginText ∷ BallReach ∷ DecimalPlaces ∷ []
 
 abbrev pub refusal-of : ℕ → Refusal
 refusal-of n = getD in-order n Ended
@@ -48,6 +48,8 @@ number-back ReciprocalScale = refl
 number-back MayBeZero = refl
 number-back Misplaced = refl
 number-back TooDeep = refl
+number-back CardMisfit = refl
+number-back MarginNotZero = refl
 number-back NumberText = refl
 number-back MarginText = refl
 number-back BallReach = refl

@@ -1,4 +1,4 @@
--- Document 01, "Numbered replies and their order", with requests b, c, e and h, and with decimals: the number for each
+-- Document 01, "Numbered replies and their order", with requests b, c, e, h and j, and with decimals: the number for each
 -- refusal.
 use Prim.Native.Nat.{ℕ, _≤_}
 use Rattle.refusals.specs.declared.Refusal.{Refusal}
@@ -10,8 +10,9 @@ use Rattle.refusals.specs.declared.Refusal.the-variants as refusal
 -- list under n" · "a step's result is out of reach" · "input of another form" · "wrong number of readings" · "a stray
 -- or margin is negative" · "reach or size" · "the scale is over 16" · "a is 0 .., |a| is at most r .. or |A| is at most
 -- R+r" · "the first byte that no text of this grammar with this beginning has there" · "the 33rd parenthesis or
--- factor's minus open at once" · 20 to 23 are not given yet · "bad text" of a number · of a margin · "a reach over M" of
--- what was read · "a number of decimals d" that is not "from 0 to 9"
+-- factor's minus open at once" · "a card number is below 0 or over M or a ball isn't inside the domain" · "a margin that
+-- isn't 0" · 21 and 23 are not given yet · "bad text" of a number · of a margin · "a reach over M" of what was read · "a
+-- number of decimals d" that is not "from 0 to 9"
 abbrev pub refusal-number : Refusal → ℕ
 refusal-number refusal.Ended = 1
 refusal-number refusal.Version = 2
@@ -31,6 +32,8 @@ refusal-number refusal.ReciprocalScale = 16
 refusal-number refusal.MayBeZero = 17
 refusal-number refusal.Misplaced = 18
 refusal-number refusal.TooDeep = 19
+refusal-number refusal.CardMisfit = 20
+refusal-number refusal.MarginNotZero = 22
 refusal-number refusal.NumberText = 24
 refusal-number refusal.MarginText = 25
 refusal-number refusal.BallReach = 26

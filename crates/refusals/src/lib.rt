@@ -3,7 +3,7 @@
 ghost use mathlib.Core.Path.{_≡_};
 ghost use Rattle.refusals.specs.Refusals.{refusal-number};
 
-// In the order of the numbers; 9 is none, and 20 to 23 are not given yet.
+// In the order of the numbers; 9 is none, and 21 and 23 are not given yet.
 pub enum Refusal {
     Ended,
     Version,
@@ -23,6 +23,8 @@ pub enum Refusal {
     MayBeZero,
     Misplaced,
     TooDeep,
+    CardMisfit,
+    MarginNotZero,
     NumberText,
     MarginText,
     BallReach,
@@ -64,6 +66,8 @@ pub fn number_of(r: Refusal) -> u32
         Refusal::MayBeZero => 17,
         Refusal::Misplaced => 18,
         Refusal::TooDeep => 19,
+        Refusal::CardMisfit => 20,
+        Refusal::MarginNotZero => 22,
         Refusal::NumberText => 24,
         Refusal::MarginText => 25,
         Refusal::BallReach => 26,

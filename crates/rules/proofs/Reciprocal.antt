@@ -210,13 +210,40 @@ inverses-within F a b R near away =
     room : 0 < natAbs b - R
     room = omega arith
 
--- a ball (a, r) away from 0, and a fraction n/d that it contains
-module _ (F : ℕ) (a n : ℤ) (r d : ℕ) (near : natAbs (n *ℤ pos (Q F) -ℤ a *ℤ pos d) ≤ r * d) (away : r < natAbs a) where
+-- a number a, and a fraction n/d that misses it
+module _ (F : ℕ) (a n : ℤ) (d : ℕ) where
   abbrev miss : ℤ
   miss = n *ℤ pos (Q F) -ℤ a *ℤ pos d
 
+  -- a·Q times what d/n misses c by, from n/d's miss and what rounding lost
+  reciprocal-miss : (sign n *ℤ pos d *ℤ pos (Q F) -ℤ Inverse F a *ℤ pos (natAbs n)) *ℤ (a *ℤ pos (Q F))
+      ≡ pos (T F) *ℤ (sign n *ℤ negℤ miss) +ℤ shortfall F a *ℤ (pos (natAbs n) *ℤ pos (Q F))
+  reciprocal-miss =
+      ring (sign n ∷ pos d ∷ pos (Q F) ∷ Inverse F a ∷ pos (natAbs n) ∷ a ∷ [])
+      ((x₀ ⊗ x₁ ⊗ x₂ ⊖ x₃ ⊗ x₄) ⊗ (x₅ ⊗ x₂))
+      (x₂ ⊗ x₂ ⊗ (x₀ ⊗ (x₅ ⊗ x₁) ⊖ x₄ ⊗ x₂) ⊕ (x₂ ⊗ x₂ ⊖ x₃ ⊗ x₅) ⊗ (x₄ ⊗ x₂)) refl
+      ∙ ap₂ (λ (t : ℕ) (z : ℤ). pos t *ℤ (sign n *ℤ (a *ℤ pos d) -ℤ z *ℤ pos (Q F)) +ℤ (pos t -ℤ Inverse F a *ℤ a) *ℤ (pos (natAbs n) *ℤ pos (Q F)))
+      (sym (T-square F)) (sign-size n)
+      ∙ ring (pos (T F) ∷ sign n ∷ a ∷ pos d ∷ n ∷ pos (Q F) ∷ shortfall F a ∷ (pos (natAbs n) *ℤ pos (Q F)) ∷ [])
+      (x₀ ⊗ (x₁ ⊗ (x₂ ⊗ x₃) ⊖ x₁ ⊗ x₄ ⊗ x₅) ⊕ x₆ ⊗ x₇)
+      (x₀ ⊗ (x₁ ⊗ neg (x₄ ⊗ x₅ ⊖ x₂ ⊗ x₃)) ⊕ x₆ ⊗ x₇) refl
+
+  -- so d/n misses c by at most this
+  pub inverse-misses : natAbs (sign n *ℤ pos d *ℤ pos (Q F) -ℤ Inverse F a *ℤ pos (natAbs n)) * (natAbs a * Q F) ≤ T F * natAbs miss + natAbs (shortfall F a) * (natAbs n * Q F)
+  inverse-misses =
+      subst₂ (λ (m k : ℕ). m ≤ k)
+      (sym (ap natAbs reciprocal-miss)
+      ∙ size-mul (sign n *ℤ pos d *ℤ pos (Q F) -ℤ Inverse F a *ℤ pos (natAbs n)) (a *ℤ pos (Q F))
+      ∙ ap (λ (k : ℕ). natAbs (sign n *ℤ pos d *ℤ pos (Q F) -ℤ Inverse F a *ℤ pos (natAbs n)) * k) (size-mul a (pos (Q F))))
+      (ap₂ (λ (m k : ℕ). m + k)
+      (size-mul (pos (T F)) (sign n *ℤ negℤ miss) ∙ ap (λ (k : ℕ). T F * k) (sign-times n (negℤ miss) ∙ size-neg miss))
+      (size-mul (shortfall F a) (pos (natAbs n) *ℤ pos (Q F))))
+      (size-add (pos (T F) *ℤ (sign n *ℤ negℤ miss)) (shortfall F a *ℤ (pos (natAbs n) *ℤ pos (Q F))))
+
+-- a ball (a, r) away from 0, and a fraction n/d that it contains
+module _ (F : ℕ) (a n : ℤ) (r d : ℕ) (near : natAbs (n *ℤ pos (Q F) -ℤ a *ℤ pos d) ≤ r * d) (away : r < natAbs a) where
   -- what the ball contains is at least |a| − r from 0
-  far : (natAbs a - r) * d ≤ natAbs n * Q F
+  pub far : (natAbs a - r) * d ≤ natAbs n * Q F
   far = by-parts (natAbs a - r) (natAbs a) (natAbs n * Q F) (omega arith) (omega (arith, inside, size-mul a (pos d), size-mul n (pos (Q F))))
     where
       inside : natAbs (a *ℤ pos d) ≤ natAbs (n *ℤ pos (Q F)) + r * d
@@ -235,32 +262,8 @@ module _ (F : ℕ) (a n : ℤ) (r d : ℕ) (near : natAbs (n *ℤ pos (Q F) -ℤ
       factor zero l = omega arith
       factor (suc m) l = omega arith
 
-  -- a·Q times what d/n misses c by, from n/d's miss and what rounding lost
-  reciprocal-miss : (sign n *ℤ pos d *ℤ pos (Q F) -ℤ Inverse F a *ℤ pos (natAbs n)) *ℤ (a *ℤ pos (Q F))
-      ≡ pos (T F) *ℤ (sign n *ℤ negℤ miss) +ℤ shortfall F a *ℤ (pos (natAbs n) *ℤ pos (Q F))
-  reciprocal-miss =
-      ring (sign n ∷ pos d ∷ pos (Q F) ∷ Inverse F a ∷ pos (natAbs n) ∷ a ∷ [])
-      ((x₀ ⊗ x₁ ⊗ x₂ ⊖ x₃ ⊗ x₄) ⊗ (x₅ ⊗ x₂))
-      (x₂ ⊗ x₂ ⊗ (x₀ ⊗ (x₅ ⊗ x₁) ⊖ x₄ ⊗ x₂) ⊕ (x₂ ⊗ x₂ ⊖ x₃ ⊗ x₅) ⊗ (x₄ ⊗ x₂)) refl
-      ∙ ap₂ (λ (t : ℕ) (z : ℤ). pos t *ℤ (sign n *ℤ (a *ℤ pos d) -ℤ z *ℤ pos (Q F)) +ℤ (pos t -ℤ Inverse F a *ℤ a) *ℤ (pos (natAbs n) *ℤ pos (Q F)))
-      (sym (T-square F)) (sign-size n)
-      ∙ ring (pos (T F) ∷ sign n ∷ a ∷ pos d ∷ n ∷ pos (Q F) ∷ shortfall F a ∷ (pos (natAbs n) *ℤ pos (Q F)) ∷ [])
-      (x₀ ⊗ (x₁ ⊗ (x₂ ⊗ x₃) ⊖ x₁ ⊗ x₄ ⊗ x₅) ⊕ x₆ ⊗ x₇)
-      (x₀ ⊗ (x₁ ⊗ neg (x₄ ⊗ x₅ ⊖ x₂ ⊗ x₃)) ⊕ x₆ ⊗ x₇) refl
-
-  total : natAbs (sign n *ℤ pos d *ℤ pos (Q F) -ℤ Inverse F a *ℤ pos (natAbs n)) * (natAbs a * Q F) ≤ T F * natAbs miss + natAbs (shortfall F a) * (natAbs n * Q F)
-  total =
-      subst₂ (λ (m k : ℕ). m ≤ k)
-      (sym (ap natAbs reciprocal-miss)
-      ∙ size-mul (sign n *ℤ pos d *ℤ pos (Q F) -ℤ Inverse F a *ℤ pos (natAbs n)) (a *ℤ pos (Q F))
-      ∙ ap (λ (k : ℕ). natAbs (sign n *ℤ pos d *ℤ pos (Q F) -ℤ Inverse F a *ℤ pos (natAbs n)) * k) (size-mul a (pos (Q F))))
-      (ap₂ (λ (m k : ℕ). m + k)
-      (size-mul (pos (T F)) (sign n *ℤ negℤ miss) ∙ ap (λ (k : ℕ). T F * k) (sign-times n (negℤ miss) ∙ size-neg miss))
-      (size-mul (shortfall F a) (pos (natAbs n) *ℤ pos (Q F))))
-      (size-add (pos (T F) *ℤ (sign n *ℤ negℤ miss)) (shortfall F a *ℤ (pos (natAbs n) *ℤ pos (Q F))))
-
   -- "margin T·r/((|a|−r)·|a|) rounded up" covers what n/d's miss comes to
-  covered : T F * natAbs miss ≤ ceiling (T F * r) ((natAbs a - r) * natAbs a) * (natAbs n * Q F * natAbs a)
+  covered : T F * natAbs (miss F a n d) ≤ ceiling (T F * r) ((natAbs a - r) * natAbs a) * (natAbs n * Q F * natAbs a)
   covered =
       reciprocals-near (T F) d 1 r (natAbs a - r) (natAbs a) (ceiling (T F * r) ((natAbs a - r) * natAbs a)) (omega arith) far (omega arith) (ceiling-covers (T F * r) (mul-pos room (omega arith)))
 
@@ -269,7 +272,7 @@ module _ (F : ℕ) (a n : ℤ) (r d : ℕ) (near : natAbs (n *ℤ pos (Q F) -ℤ
   inverse-encloses =
       le-of-mul-le-mul-right {k = natAbs a * Q F}
       (together (natAbs a) (Q F) (natAbs n) (ceiling (T F * r) ((natAbs a - r) * natAbs a)) (inexact F a) (natAbs (sign n *ℤ pos d *ℤ pos (Q F) -ℤ Inverse F a *ℤ pos (natAbs n)))
-      total covered (mul-le-mul-right (natAbs n * Q F) (inverse-lost F a (omega arith))))
+      (inverse-misses F a n d) covered (mul-le-mul-right (natAbs n * Q F) (inverse-lost F a (omega arith))))
       (mul-pos (omega arith) (pow-pos F))
     where
       together : (m q k c i w : ℕ) {u s : ℕ} → w * (m * q) ≤ u + s → u ≤ c * (k * q * m) → s ≤ i * m * (k * q) → w * (m * q) ≤ (c + i) * k * (m * q)

@@ -2,8 +2,8 @@
 -- Up is at least p/Q, and no whole number between is. Assumes nothing.
 use mathlib.Core.Path.{_≡_, refl, sym, _∙_, ap, ap₂, subst}
 use mathlib.Core.List.{[], _∷_}
-use Prim.Native.Nat.{ℕ, zero, suc, _+_, _-_, _*_, _%_, _≤_, _<_}
-use native.Mathlib.Nat.{le-refl, le-trans, le-antisymm, mul-le-mul-left, le-div-iff-mul-le, div-lt-iff-lt-mul, lt-div-mul-add, pow-suc}
+use Prim.Native.Nat.{ℕ, zero, suc, _+_, _-_, _*_, _/_, _%_, _≤_, _<_}
+use native.Mathlib.Nat.{le-refl, le-trans, le-antisymm, mul-le-mul-left, le-div-iff-mul-le, div-lt-iff-lt-mul, lt-div-mul-add, div-add-mod', mod-lt, pow-suc, add-mul}
 use native.Mathlib.Omega.{arith}
 use lib.IntN.{ℤ, pos, natAbs, _+ℤ_, _-ℤ_, _*ℤ_}
 use lib.Pow.{pow-pos}
@@ -79,6 +79,19 @@ ceiling-at-most k {p} {q} h l = omega (arith, div-lt-iff-lt-mul {x = p + (q - 1)
 pub ceiling-least : (n p : ℕ) {q : ℕ} → 0 < q → n * q ≤ p + (q - 1) → n ≤ ceiling p q
 ceiling-least n p h l = le-div-iff-mul-le h .1 l
 
+-- by quotient and remainder: the quotient where nothing is left, else one more
+pub ceiling-exact : (p : ℕ) {q : ℕ} → 0 < q → p % q ≡ 0 → ceiling p q ≡ p / q
+ceiling-exact p {q} h e =
+    le-antisymm (ceiling-at-most (p / q) h (omega (arith, div-add-mod' p q))) (ceiling-least (p / q) p h (omega (arith, div-add-mod' p q)))
+
+pub ceiling-more : (p : ℕ) {q : ℕ} → 0 < q → (p % q ≡ 0 → ⊥) → ceiling p q ≡ p / q + 1
+ceiling-more p {q} h d =
+    le-antisymm (ceiling-at-most (p / q + 1) h (omega (arith, div-add-mod' p q, mod-lt p h, one-more)))
+    (ceiling-least (p / q + 1) p h (omega (arith, div-add-mod' p q, one-more)))
+  where
+    one-more : (p / q + 1) * q ≡ p / q * q + q
+    one-more = omega arith
+
 -- it does not fall when more is divided, or by less
 pub ceiling-mono : {m n p q : ℕ} → 0 < q → m ≤ n → q ≤ p → ceiling m p ≤ ceiling n q
 ceiling-mono {m} {n} {p} {q} h l k =
@@ -100,6 +113,12 @@ up-least F n p l = ceiling-least n p (pow-pos F) l
 pub up-mono : (F : ℕ) {p q : ℕ} → p ≤ q → Up F p ≤ Up F q
 unfolding Up
 up-mono F l = ceiling-mono (pow-pos F) l (le-refl (Q F))
+
+-- the Up of a sum is at most the sum of the Ups
+pub up-add : (F p q : ℕ) → Up F (p + q) ≤ Up F p + Up F q
+unfolding Up
+up-add F p q =
+    ceiling-at-most (Up F p + Up F q) (pow-pos F) (omega (arith, up-covers F p, up-covers F q, add-mul (Up F p) (Up F q) (Q F)))
 
 pub round-near : (F : ℕ) (p q : ℤ) → natAbs (Round F p -ℤ Round F q) ≤ Up F (natAbs (p -ℤ q))
 round-near F p q = up-least F _ _ (subst (λ (n : ℕ). n ≤ natAbs (p -ℤ q) + (Q F - 1)) (ap natAbs moved ∙ size-mul (Round F p -ℤ Round F q) (pos (Q F))) far)

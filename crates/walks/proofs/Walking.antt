@@ -8,12 +8,15 @@ use mir.Syntax.{w64}
 use mir.Val.{Fits}
 use Rattle.whole.proofs.Cases.{less}
 use Rattle.lists.specs.All.{All}
+use Rattle.lists.specs.Each.{Each}
 use Rattle.lists.proofs.Each.{all-behind}
 use Rattle.refusals.specs.declared.Refusal.{Refusal}
 use Rattle.refusals.specs.Refusals.{refusal-number}
 use Rattle.refusals.specs.Answer.{Answer, value, refuse}
 use Rattle.refusals.specs.Said.{refuses}
+use Rattle.refusals.proofs.Answers.{same-value}
 use Rattle.bits.specs.declared.Cursor.{Cursor}
+use Rattle.bits.specs.Reader.{Read}
 use Rattle.bits.specs.Fields.{before}
 use Rattle.formulas.specs.declared.Header.{Header}
 use Rattle.formulas.specs.declared.Instruction.{Instruction}
@@ -23,25 +26,63 @@ use Rattle.formulas.specs.Kinds.{Kind}
 use Rattle.formulas.proofs.Lawful.{Lawful}
 use Rattle.packed.specs.Items.{read}
 use Rattle.packed.specs.Format.{results, all-wide}
+use Rattle.packed.specs.Meaning.{meant}
 use Rattle.packed.specs.Walk.{Readable, Decodes, DecodesFrom}
 use Rattle.packed.specs.declared.loaded.Loaded.{Loaded}
 use Rattle.packed.specs.Loading.{place-of, Loads}
 use Rattle.packed.proofs.Shapes.{decodes-place, readable-place}
 use Rattle.packed.proofs.Formed.{Formed, formed, limits-of}
 use Rattle.walks.specs.declared.Walked.the-variants.{Finished, Stopped}
-use Rattle.walks.specs.Walks.{Walkable, walk-of, Walks, Steppable, Stepped}
-use Rattle.walks.proofs.Onward.{Onward, onward-start, onward-readable, onward-smaller, onward-more, onward-stops, onward-ends, onward-stands, onward-whole}
+use Rattle.walks.specs.Walks.{Walkable, AtOutputs, walk-of, Walks, Steppable, Stepped}
+use Rattle.walks.proofs.Onward.{Goes, run-goes, Onward, onward-start, onward-readable, onward-smaller, onward-each, onward-more}
+use Rattle.walks.proofs.Onward.{onward-stops, onward-ends, onward-stands}
 
 -- the instructions follow the header's 32 bits
 abbrev pub first : Cursor
 first = record { at = 32 }
+
+-- what has been walked is a checked formula's instructions, for any step from the values so far
+module _ {A : Type 0} {go : List Instruction → List A → Walk A} {step : List A → Instruction → Answer A} (g : Goes go step) {s : List ℕ} {h : Header}
+    {c : Cursor} {k : ℕ} {vs₀ vs : List A} (f : Formed s h) (o : Onward go s (h .scale) first c (h .inputs) (h .instructions) k vs₀ vs) where
+  -- the cursor is near the start, so that its place is small
+  pub formula-near : c .at ≤ 2 ^ 20
+  formula-near = omega (arith, o .near, o .few, limits-of f .instructions-few)
+
+  -- the value that the next instruction makes has a small number, and so has the instruction
+  pub formula-small : h .inputs + k ≤ 528
+  formula-small = omega (arith, o .few, limits-of f .instructions-few, limits-of f .inputs-few)
+
+  is-start : meant s .program ≡ o .start .all .got
+  is-start = sym (f .is-program) ∙ ap (λ (r : Read (List Instruction)). r .got) (same-value (sym (f .reads-instructions) ∙ o .start .reads))
+
+  -- the whole run, once the rest of it is known
+  pub formula-whole : {r : Walk A} → go (o .start .all .got) vs₀ ≡ r → go (meant s .program) vs₀ ≡ r
+  formula-whole e = ap (λ (is : List Instruction). go is vs₀) is-start ∙ e
+
+  -- what holds of each instruction of the formula holds of the next one
+  pub formula-each : {P : ℕ → Instruction → Type 0} {i : Instruction} {e : Cursor} → k < h .instructions → Decodes s c i e
+      → Each P (h .inputs) (meant s .program) → P (h .inputs + k) i
+  formula-each {P} less decodes a = onward-each g o less decodes (subst (Each P (h .inputs)) is-start a)
+
+  pub formula-stands : k ≡ h .instructions → AtOutputs s c
+  formula-stands e =
+      let a = onward-stands g o e (f .reads-instructions) in
+      record {
+        stands = a .1 ∙ ap (λ is. first .at + all-wide is) (f .is-program);
+        near = formula-near;
+        all = f .outputs;
+        reads =
+            subst (λ (g : Header). read (results (g .outputs) (places g)) (before s c) ≡ value (f .outputs)) (sym (f .is-header))
+            (subst (λ (bs : List ℕ). read (results (h .outputs) (places h)) bs ≡ value (f .outputs)) (sym (a .0)) (f .reads-outputs));
+        are = f .are-results;
+      }
 
 -- k instructions were carried out: the values made so far are legal, and the lists hold them
 pub record Walking (K : Kind) (s : List ℕ) (h : Header) (c : Cursor) (k : ℕ) (old now : K .Lists) : Type 0 where
   pub formula-there : Formed s h
   pub room : places h ≤ K .room old
   pub values : List (K .Value)
-  pub onward : Onward (K .rule (h .scale)) (K .nothing) s (h .scale) first c (h .inputs) (h .instructions) k (K .front (h .inputs) old) values
+  pub onward : Onward (run (K .rule (h .scale)) (K .nothing)) s (h .scale) first c (h .inputs) (h .instructions) k (K .front (h .inputs) old) values
   pub legal : All (K .Legal) values
   pub many : length values ≡ h .inputs + k
   pub holds : K .Holds values old now
@@ -55,7 +96,7 @@ module _ {K : Kind} (law : Lawful K) {s : List ℕ} {h : Header} where
         formula-there = f;
         room = w .room;
         values = K .front (h .inputs) l;
-        onward = onward-start (K .rule (h .scale)) (K .nothing) (K .front (h .inputs) l) (record { all = f .instructions; reads = f .reads-instructions });
+        onward = onward-start (run-goes (K .rule (h .scale)) (K .nothing)) (K .front (h .inputs) l) (record { all = f .instructions; reads = f .reads-instructions });
         legal = w .legal;
         many = omega (arith, law .front-many (h .inputs) l r);
         holds = law .holds-front (h .inputs) l r;
@@ -65,13 +106,11 @@ module _ {K : Kind} (law : Lawful K) {s : List ℕ} {h : Header} where
     few : k ≤ h .instructions
     few = w .onward .few
 
-    -- the cursor is near the start, so that its place is small
-    walking-near : c .at ≤ 2 ^ 20
-    walking-near = omega (arith, w .onward .near, few, limits-of (w .formula-there) .instructions-few)
+    goes : Goes (run (K .rule (h .scale)) (K .nothing)) (λ vs i. K .rule (h .scale) (with-values (K .nothing) vs i))
+    goes = run-goes (K .rule (h .scale)) (K .nothing)
 
-    -- the value that the next instruction makes has a small number, and so has the instruction
     small : h .inputs + k ≤ 528
-    small = omega (arith, few, limits-of (w .formula-there) .instructions-few, limits-of (w .formula-there) .inputs-few)
+    small = formula-small goes (w .formula-there) (w .onward)
 
     pub walking-made : Fits w64 (h .inputs + k)
     walking-made = record { fits = omega (arith, small) }
@@ -91,35 +130,17 @@ module _ {K : Kind} (law : Lawful K) {s : List ℕ} {h : Header} where
     seen : K .front (h .inputs + k) now ≡ w .values
     seen = law .front-holds (w .values) (h .inputs + k) old now (w .many) (w .holds)
 
-    -- the whole run, once the rest of it is known
     whole : {r : Walk (K .Value)} → run (K .rule (h .scale)) (K .nothing) (w .onward .start .all .got) (K .front (h .inputs) old) ≡ r
         → walk-of K s h old ≡ r
-    whole e =
-        ap (λ (is : List Instruction). run (K .rule (h .scale)) (K .nothing) is (K .front (h .inputs) old)) (sym (w .formula-there .is-program))
-        ∙ onward-whole (K .rule (h .scale)) (K .nothing) (w .onward) (w .formula-there .reads-instructions) e
+    whole e = formula-whole goes (w .formula-there) (w .onward) e
 
     leaves : {r : Walk (K .Value)} → made-by r ≡ w .values → walk-of K s h old ≡ r → K .Holds (made-by (walk-of K s h old)) old now
     leaves m e = subst (λ (vs : List (K .Value)). K .Holds vs old now) (sym (ap made-by e ∙ m)) (w .holds)
 
     pub walking-ends : k ≡ h .instructions → Walks K s h old now (Finished c)
     walking-ends e =
-        let r = whole (onward-ends (K .rule (h .scale)) (K .nothing) (w .onward) e) in
-        let f = w .formula-there in
-        let a = onward-stands (K .rule (h .scale)) (K .nothing) (w .onward) e (f .reads-instructions) in
-        record {
-          says = sym (ap (walk-end (h .inputs)) r);
-          holds = leaves refl r;
-          stands =
-              record {
-                stands = a .1 ∙ ap (λ is. first .at + all-wide is) (f .is-program);
-                near = walking-near;
-                all = f .outputs;
-                reads =
-                    subst (λ (g : Header). read (results (g .outputs) (places g)) (before s c) ≡ value (f .outputs)) (sym (f .is-header))
-                    (subst (λ (bs : List ℕ). read (results (h .outputs) (places h)) bs ≡ value (f .outputs)) (sym (a .0)) (f .reads-outputs));
-                are = f .are-results;
-              };
-        }
+        let r = whole (onward-ends goes (w .onward) e) in
+        record { says = sym (ap (walk-end (h .inputs)) r); holds = leaves refl r; stands = formula-stands goes (w .formula-there) (w .onward) e }
 
     module _ (more : k ≡ h .instructions → ⊥) where
       next : k < h .instructions
@@ -132,10 +153,10 @@ module _ {K : Kind} (law : Lawful K) {s : List ℕ} {h : Header} where
       walking-less = omega (arith, next)
 
       pub walking-within : c .at ≤ 2 ^ 30
-      walking-within = omega (arith, walking-near)
+      walking-within = omega (arith, formula-near goes (w .formula-there) (w .onward))
 
       pub walking-readable : {l : Loaded} → Loads s c l → Readable s (place-of l)
-      walking-readable o = readable-place o (onward-readable (K .rule (h .scale)) (K .nothing) (w .onward) next)
+      walking-readable o = readable-place o (onward-readable goes (w .onward) next)
 
       module _ {l : Loaded} (loads : Loads s c l) {i : Instruction} {e : Cursor} (from : DecodesFrom s l i e) where
         decodes : Decodes s c i e
@@ -145,7 +166,7 @@ module _ {K : Kind} (law : Lawful K) {s : List ℕ} {h : Header} where
         walking-steps =
             record {
               scale-small = limits-of (w .formula-there) .scale-small;
-              smaller = onward-smaller (K .rule (h .scale)) (K .nothing) (w .onward) next decodes;
+              smaller = onward-smaller goes (w .onward) next decodes;
               room = omega (arith, walking-inside);
               legal = subst (All (K .Legal)) (sym seen) (w .legal);
             }
@@ -156,7 +177,7 @@ module _ {K : Kind} (law : Lawful K) {s : List ℕ} {h : Header} where
 
         pub walking-stops : {a : Answer (K .Value)} {q : Refusal} → Stepped K (h .scale) i (h .inputs + k) now a → a ≡ refuse q → Walks K s h old now (Stopped q k)
         walking-stops {q = q} t u =
-            let r = whole (onward-stops (K .rule (h .scale)) (K .nothing) (w .onward) next decodes (stepped t ∙ u)) in
+            let r = whole (onward-stops goes (w .onward) next decodes (stepped t ∙ u)) in
             record { says = ap (refuses (refusal-number q)) place ∙ sym (ap (walk-end (h .inputs)) r); holds = leaves refl r; stands = tt }
           where
             place : k ≡ length (w .values) - h .inputs
@@ -172,7 +193,7 @@ module _ {K : Kind} (law : Lawful K) {s : List ℕ} {h : Header} where
               formula-there = w .formula-there;
               room = w .room;
               values = w .values ++ v ∷ [];
-              onward = onward-more (K .rule (h .scale)) (K .nothing) (w .onward) next decodes r;
+              onward = onward-more goes (w .onward) next decodes r;
               legal = all-behind (w .legal) legal;
               many = omega (arith, length-append (w .values) (v ∷ []), w .many);
               holds = p (w .holds) (w .many) legal;

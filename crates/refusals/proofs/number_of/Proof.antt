@@ -5,7 +5,7 @@ use Rattle.refusals.specs.declared.Refusal.{Refusal}
 use Rattle.refusals.specs.declared.Refusal.the-variants.{Ended, Version, Scale, Count, Code, Operand, Constant, Padding}
 use Rattle.refusals.specs.declared.Refusal.the-variants.{NoRoom, OutOfReach, AnotherForm, ReadingCount}
 use Rattle.refusals.specs.declared.Refusal.the-variants.{NegativeMargin, ReadingTooLarge, ReciprocalScale, MayBeZero}
-use Rattle.refusals.specs.declared.Refusal.the-variants.{Misplaced, TooDeep, NumberText, MarginText}
+use Rattle.refusals.specs.declared.Refusal.the-variants.{Misplaced, TooDeep, CardMisfit, MarginNotZero, NumberText, MarginText}
 use Rattle.refusals.specs.declared.Refusal.the-variants.{BallReach, DecimalPlaces}
 use Rattle.refusals.specs.Refusals.{refusal-number}
 use Rattle.refusals.proofs.number_of.Statement.{statement}
@@ -18,6 +18,8 @@ pub number-of-spec : {M : Type 1} → statement M
 number-of-spec =
     tie.close
     (tie.spec
+    (λ c. search needs)
+    (λ c. search needs)
     (λ c. search needs)
     (λ c. search needs)
     (λ c. search needs)
@@ -58,6 +60,8 @@ number-of-spec =
     (λ c. search (number-told MayBeZero))
     (λ c. search (number-told Misplaced))
     (λ c. search (number-told TooDeep))
+    (λ c. search (number-told CardMisfit))
+    (λ c. search (number-told MarginNotZero))
     (λ c. search (number-told NumberText))
     (λ c. search (number-told MarginText))
     (λ c. search (number-told BallReach))

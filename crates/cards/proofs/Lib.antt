@@ -1,0 +1,19 @@
+-- What the definitions of the card entail, one subject a file.
+pub mod Weights
+pub mod Between
+pub mod Slopes
+pub mod OneSlope
+pub mod Around
+pub mod Readings
+pub mod Card
+pub mod Sizes
+pub mod Tests
+pub mod Columns
+pub mod Stops
+pub mod Making
+pub mod Using
+pub mod Flat
+pub mod Honest
+pub mod Figures
+pub mod Lent
+pub mod Places
