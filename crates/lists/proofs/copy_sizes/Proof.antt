@@ -12,32 +12,32 @@ use Rattle.lists.proofs.Front.{Filled, filled_none, filled_one, filled_all}
 use Rattle.lists.proofs.copy_sizes.Statement.{statement}
 use Rattle.lists.proofs.copy_sizes.Tie as tie
 
-abbrev invariant-loop : tie.invariant-loop
-invariant-loop from to₀ i₀ to i = Filled (map nat_abs from) to₀ to i
+abbrev invariant-loop-i : tie.invariant-loop-i
+invariant-loop-i from to₀ i₀ to i = Filled (map nat_abs from) to₀ to i
 
-abbrev decreases-loop : tie.decreases-loop
-decreases-loop from to₀ i₀ to i = length from - i
+abbrev decreases-loop-i : tie.decreases-loop-i
+decreases-loop-i from to₀ i₀ to i = length from - i
 
-loop_holds : tie.Need-loop-init invariant-loop decreases-loop
+loop_holds : tie.Need-loop-i-init invariant-loop-i decreases-loop-i
 loop_holds c = filled_none (map nat_abs c.before.args.from.now) c.before.args.to.now
 
-loop_again : tie.Need-loop-preserved invariant-loop decreases-loop
+loop_again : tie.Need-loop-i-preserved invariant-loop-i decreases-loop-i
 loop_again c =
     let a = c.before.before.before.before.before.args in
-    let i = c.before.before.before.loop.i in
+    let i = c.before.before.before.loop-i.i in
     let m = length-map a.from.now nat_abs in
-    let z = to_z-of_z w64 (get_or a.from.now i (pos 0)) (record { sfits = c.before.v.given }) in
-    filled_one (map nat_abs a.from.now) a.to.now 0 (omega (arith, m)) (omega (arith, m)) (c.magnitude.ensures ∙ ap nat_abs z ∙ sym (get_or-map nat_abs a.from.now i (pos 0))) c.before.before.before.loop.invariant
+    let z = to_z-of_z w64 (get_or a.from.now i (pos 0)) (record { sfits = c.before.v-1.given }) in
+    filled_one (map nat_abs a.from.now) a.to.now 0 (omega (arith, m)) (omega (arith, m)) (c.magnitude.ensures ∙ ap nat_abs z ∙ sym (get_or-map nat_abs a.from.now i (pos 0))) c.before.before.before.loop-i.invariant
 
-returns : tie.Need-returns invariant-loop decreases-loop
-returns c = filled_all (map nat_abs c.before.before.before.args.from.now) c.before.before.before.args.to.now (omega (arith, length-map c.before.before.before.args.from.now nat_abs)) c.before.loop.invariant
+returns : tie.Need-returns invariant-loop-i decreases-loop-i
+returns c = filled_all (map nat_abs c.before.before.before.args.from.now) c.before.before.before.args.to.now (omega (arith, length-map c.before.before.before.args.from.now nat_abs)) c.before.loop-i.invariant
 
 pub copy_sizes_spec : {M : Type 1} → statement M
 copy_sizes_spec =
     tie.close
     (tie.spec
-    invariant-loop
-    decreases-loop
+    invariant-loop-i
+    decreases-loop-i
     loop_holds
     (λ c. search rules)
     (λ c. search rules)

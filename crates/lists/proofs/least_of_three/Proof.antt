@@ -11,4 +11,4 @@ least_of_three_spec =
     (tie.spec
     (λ c κs. search rules)
     (λ c κs. search rules)
-    (λ c. c.least_of2.ensures ∙ ap (least c.before.before.args.a) c.before.least_of.ensures))
+    (λ c. c.least_of-2.ensures ∙ ap (least c.before.before.args.a) c.before.least_of.ensures))

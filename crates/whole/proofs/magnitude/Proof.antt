@@ -36,22 +36,22 @@ flip (negsuc n) h t = record { m = n; short = h.sfits; flipped = ap (λ (x : ℤ
     one_less : negsuc 0 +ℤ pos (suc n) ≡ pos n
     one_less = ap (λ (k : ℕ). negsuc 0 +ℤ pos k) (sym (add-one n)) ∙ ring (pos n ∷ []) (lit (negsuc 0) ⊕ (x₀ ⊕ lit (pos 1))) x₀ refl
 
-below_zero : (c : lts.Then1 reads.Pre reads.Post) → Flipped c.before.args.x
+below_zero : (c : lts.Then-x-lt0 reads.Pre reads.Post) → Flipped c.before.args.x
 below_zero c =
     flip c.before.args.x c.before.ranges.x
-    (subst (λ (z : ℤ). lt_z z (pos 0) ≡ true) (to_z-of_z w64 c.before.args.x c.before.ranges.x) c.if1.true)
+    (subst (λ (z : ℤ). lt_z z (pos 0) ≡ true) (to_z-of_z w64 c.before.args.x c.before.ranges.x) c.if-x-lt0.true)
 
 -- what the machine keeps of −1 − x
 kept : {z : ℤ} (f : Flipped z) → back (negsuc 0 -ℤ back z) ≡ pos f.m
 kept f = ap back f.flipped ∙ back_is (pos f.m) f.short
 
-sub_result : tie.Need-overflow-sub-result
+sub_result : tie.Need-overflow_sub-result
 sub_result c = let f = below_zero c in rw f.flipped (record { sfits = f.short })
 
-cast_result : tie.Need-overflow-cast-result
+cast_result : tie.Need-overflow_cast-result
 cast_result c = let f = below_zero c in rw (kept f) (tt, record { fits = omega (arith, f.short) })
 
-add_result : tie.Need-overflow-add-result
+add_result : tie.Need-overflow_add-result
 add_result c = let f = below_zero c in rw (kept f) (record { fits = omega (arith, f.short) })
 
 at_least_zero : (z : ℤ) → SFits w64 z → lt_z z (pos 0) ≡ false → T (non_neg z) × Fits w64 (nat_abs z)
@@ -61,15 +61,15 @@ at_least_zero (negsuc n) h t = let z : ◌≡◌ {A = Bool} true false = t in ab
     never : true ≡ false → ⊥
     never e = let z : ◌≡◌ {A = ℕ} 0 1 = cc in omega arith
 
-cast_result_2 : tie.Need-overflow-cast-result-2
+cast_result_2 : tie.Need-overflow_cast-result-else-x-lt0
 cast_result_2 c =
     let e = to_z-of_z w64 c.before.args.x c.before.ranges.x in
-    rw e (at_least_zero c.before.args.x c.before.ranges.x (rw e at c.if1.false))
+    rw e (at_least_zero c.before.args.x c.before.ranges.x (rw e at c.if-x-lt0.false))
 
-returns : tie.Need-returns
+returns : tie.Need-returns-then-x-lt0
 returns c = let f = below_zero c in ap (λ (z : ℤ). nat_abs z + 1) (kept f) ∙ sym f.size
 
-returns-2 : tie.Need-returns-2
+returns-2 : tie.Need-returns-else-x-lt0
 returns-2 c = search rules
 
 pub magnitude_spec : {M : Type 1} → statement M
