@@ -5,13 +5,13 @@ ghost use Rattle.bits.specs.Reader.{field};
 ghost use Rattle.bits.specs.Fields.{before, field_answer, Advanced, IsAhead, EndsAt};
 
 // So many bits from the first.
-#[derive(Drop)]
+#[derive(Clone, Copy)]
 pub struct Cursor {
     pub at: usize,
 }
 
 // A field and the cursor past it, or the bytes ended inside it.
-#[derive(Drop)]
+#[derive(Clone, Copy)]
 pub enum Field {
     Got(u64, Cursor),
     Ended,

@@ -5,7 +5,7 @@ use refusals::Refusal;
 pub mod checking;
 pub mod passing;
 
-#[derive(Drop)]
+#[derive(Clone, Copy)]
 pub enum Checked {
     Formula(Header),
     Refused(Refusal),

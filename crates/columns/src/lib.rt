@@ -4,14 +4,14 @@ ghost use Rattle.columns.specs.Records.{Added, Columned, AtMost17};
 
 // One reading with its margin.
 #[repr(C)]
-#[derive(Drop)]
+#[derive(Clone, Copy)]
 pub struct MarginsBall {
     pub centre: i64,
     pub margin: i64,
 }
 
 // The first records as two lists: a formula has at most 16 inputs, so 17 readings are too many whatever follows them.
-#[derive(Drop)]
+#[derive(Clone, Copy)]
 pub struct Columns {
     pub centres: [i64; 17],
     pub margins: [i64; 17],

@@ -6,13 +6,13 @@ ghost use Rattle.decimal_reader.specs.Answers.{TellsMargin, TellsNumber};
 use numerals::Numeral;
 
 // The digits as one number, and how many of them stand behind the point; or the place at which the text goes wrong.
-#[derive(Drop)]
+#[derive(Clone, Copy)]
 pub enum Unsigned {
     Is(u64, u32),
     Wrong(usize),
 }
 
-#[derive(Drop)]
+#[derive(Clone, Copy)]
 pub enum Signed {
     Is(i64, u32),
     Wrong(usize),

@@ -3,7 +3,7 @@ ghost use Rattle.std.specs.Prelude.{◌≡◌, ◌≤◌, pos, nat_abs};
 ghost use Rattle.rules.specs.Numbers.{M, top_scale};
 ghost use Rattle.doubles.specs.Doubles.{double};
 
-#[derive(Drop)]
+#[derive(Clone, Copy)]
 pub struct Pair {
     pub centre: f64,
     pub margin: f64,

@@ -10,7 +10,7 @@ use refusals::number_of;
 // The number of the refusal, or 0 and the answer: 1 nothing to explain, 2 admitted to `parts` of 256, 3 never admitted; what was met one
 // part further, or at 0; and its instruction, or the refused reading.
 #[repr(C)]
-#[derive(Drop)]
+#[derive(Clone, Copy)]
 pub struct MarginsExplanation {
     pub refusal: u32,
     pub answer: u8,

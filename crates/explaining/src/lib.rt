@@ -13,7 +13,7 @@ pub mod cutting;
 pub mod searching;
 
 // The first of the parts 0 to 256 that is refused and what it met, 257 where none is; and how many admissions that took.
-#[derive(Drop)]
+#[derive(Clone, Copy)]
 pub struct Edge {
     pub first: u64,
     pub met: Verdict,
@@ -21,7 +21,7 @@ pub struct Edge {
 }
 
 // What a domain's refusal comes from, or why that could not be looked at.
-#[derive(Drop)]
+#[derive(Clone, Copy)]
 pub enum Explained {
     Refused(Refusal, usize),
     Nothing,

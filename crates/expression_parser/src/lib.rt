@@ -14,21 +14,21 @@ use numerals::Numeral;
 use refusals::Refusal;
 
 // The number of the value that a part makes, the place behind the part, and how many instructions there are so far.
-#[derive(Drop)]
+#[derive(Clone, Copy)]
 pub struct Made {
     pub value: usize,
     pub at: usize,
     pub count: usize,
 }
 
-#[derive(Drop)]
+#[derive(Clone, Copy)]
 pub enum Part {
     Made(Made),
     Refused(Refusal, usize),
 }
 
 // How a factor begins at a place, if it does.
-#[derive(Drop)]
+#[derive(Clone, Copy)]
 enum Begin {
     Parenthesis,
     Minus,

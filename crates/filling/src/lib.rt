@@ -14,7 +14,7 @@ use packed::loaded::load;
 use packed::walking::decode_ahead;
 
 // An instruction as its code and two fields; a missing field is 0.
-#[derive(Drop)]
+#[derive(Clone, Copy)]
 struct Numbers {
     code: i64,
     first: i64,

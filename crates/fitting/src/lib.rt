@@ -9,7 +9,7 @@ ghost use Rattle.fitting.specs.Sizes.{Sizes, Counts, BodySizes, FormulaSizes};
 use refusals::Refusal;
 use whole::{below, magnitude};
 
-#[derive(Drop)]
+#[derive(Clone, Copy)]
 pub enum Size {
     Bits(usize),
     Refused(Refusal),

@@ -1,7 +1,7 @@
 // A formula without its bytes. What a run of it is, on lists, is in specs/; what that entails, in proofs/.
 
 // F, m, l and n.
-#[derive(Drop)]
+#[derive(Clone, Copy)]
 pub struct Header {
     pub scale: u32,
     pub inputs: usize,
@@ -10,7 +10,7 @@ pub struct Header {
 }
 
 // An operand is the number of a value.
-#[derive(Drop)]
+#[derive(Clone, Copy)]
 pub enum Instruction {
     Constant(i64),
     Negate(usize),

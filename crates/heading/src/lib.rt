@@ -9,7 +9,7 @@ use formulas::Header;
 use refusals::Refusal;
 
 // The place after what was passed, or the refusal.
-#[derive(Drop)]
+#[derive(Clone, Copy)]
 pub enum Passed {
     At(Cursor),
     Refused(Refusal),

@@ -5,7 +5,7 @@ ghost use Rattle.hex_bytes.specs.Hex.{hex_digit, hex_byte, hex, hex_front, digit
 
 use parsing::Gathered;
 
-#[derive(Drop)]
+#[derive(Clone, Copy)]
 pub enum Digit {
     Got(u8),
     Malformed,

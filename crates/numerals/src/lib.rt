@@ -7,13 +7,13 @@ ghost use Rattle.numerals.specs.Units.{units, is_exact};
 
 // The digits as one number, how many of them stand after the point, and the place behind them; or the place at which a
 // digit must stand and none does.
-#[derive(Drop)]
+#[derive(Clone, Copy)]
 pub enum Numeral {
     Got(u64, u32, usize),
     NoDigit(usize),
 }
 
-#[derive(Drop)]
+#[derive(Clone, Copy)]
 enum Digit {
     Is(u64),
     None,
@@ -124,7 +124,7 @@ pub fn power_of_ten(e: u32) -> u64
     power
 }
 
-#[derive(Drop)]
+#[derive(Clone, Copy)]
 pub struct Units {
     pub count: u64,
     pub exact: bool,

@@ -6,7 +6,7 @@ use crate::loaded::Loaded;
 use crate::making::signed;
 use bits::ending;
 
-#[derive(Drop)]
+#[derive(Clone, Copy)]
 pub struct Centred {
     pub centre: i64,
     pub margin: u64,

@@ -6,7 +6,7 @@ pub mod loaded;
 pub mod making;
 pub mod walking;
 
-#[derive(Drop)]
+#[derive(Clone, Copy)]
 pub enum InstructionRead {
     Got(formulas::Instruction, bits::Cursor),
     Refused(Refusal),

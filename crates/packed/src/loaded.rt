@@ -6,13 +6,13 @@ ghost use Rattle.packed.specs.Loading.{place_of, taken, Loads};
 use bits::Cursor;
 
 // So many bits from the first, and the bits from there on, the first on top.
-#[derive(Drop)]
+#[derive(Clone, Copy)]
 pub struct Loaded {
     pub at: usize,
     pub ahead: u64,
 }
 
-#[derive(Drop)]
+#[derive(Clone, Copy)]
 pub struct Taken {
     pub field: u64,
     pub rest: Loaded,

@@ -10,7 +10,7 @@ use crate::making::{combine, signed};
 use bits::Cursor;
 use formulas::Instruction;
 
-#[derive(Drop)]
+#[derive(Clone, Copy)]
 pub struct Decoded {
     pub instruction: Instruction,
     pub next: Cursor,

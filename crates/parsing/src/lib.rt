@@ -2,32 +2,32 @@
 pub mod finding;
 pub mod word;
 
-#[derive(Drop)]
+#[derive(Clone, Copy)]
 pub enum Found {
     At(usize),
     Nothing,
 }
 
-#[derive(Drop)]
+#[derive(Clone, Copy)]
 pub enum Digits {
     Got(u64),
     Malformed,
 }
 
-#[derive(Drop)]
+#[derive(Clone, Copy)]
 pub enum Number {
     Got(i64),
     Malformed,
 }
 
 // How many values were written.
-#[derive(Drop)]
+#[derive(Clone, Copy)]
 pub enum Gathered {
     Got(usize),
     Malformed,
 }
 
-#[derive(Drop)]
+#[derive(Clone, Copy)]
 pub enum Named {
     Plain,
     Ball,

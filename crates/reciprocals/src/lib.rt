@@ -45,7 +45,7 @@ fn missed(scale: u32, times: u64, size: u64) -> u64
 }
 
 // The floor of T/a + 1/2, and 1 unless a divides T.
-#[derive(Drop)]
+#[derive(Clone, Copy)]
 pub struct Inverted {
     pub centre: i64,
     pub missed: u64,

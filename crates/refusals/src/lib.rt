@@ -4,7 +4,7 @@ ghost use Rattle.std.specs.Prelude.{◌≡◌};
 ghost use Rattle.refusals.specs.Refusals.{refusal_number};
 
 // In the order of the numbers; 9 is none, and 21 and 23 are not given yet.
-#[derive(Drop)]
+#[derive(Clone, Copy)]
 pub enum Refusal {
     Ended,
     Version,
@@ -33,14 +33,14 @@ pub enum Refusal {
 }
 
 // Whether what a caller brought passed its test, or why not and at which place.
-#[derive(Drop)]
+#[derive(Clone, Copy)]
 pub enum Verdict {
     Passed,
     Refused(Refusal, usize),
 }
 
 // How many outputs were written, or why none was and at which place.
-#[derive(Drop)]
+#[derive(Clone, Copy)]
 pub enum Reply {
     Done(usize),
     Refused(Refusal, usize),

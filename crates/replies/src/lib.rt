@@ -12,7 +12,7 @@ use refusals::{Reply, number_of};
 
 // The number of the refusal, or 0; how many outputs were written; the refusal's place.
 #[repr(C)]
-#[derive(Drop)]
+#[derive(Clone, Copy)]
 pub struct MarginsReply {
     pub refusal: u32,
     pub outputs: u32,
@@ -21,7 +21,7 @@ pub struct MarginsReply {
 
 // The number of the refusal, or 0 and F, m, n and l.
 #[repr(C)]
-#[derive(Drop)]
+#[derive(Clone, Copy)]
 pub struct MarginsFormula {
     pub refusal: u32,
     pub scale: u32,
@@ -32,7 +32,7 @@ pub struct MarginsFormula {
 
 // The number of the refusal, or 0; how many bytes were written; the refusal's place.
 #[repr(C)]
-#[derive(Drop)]
+#[derive(Clone, Copy)]
 pub struct MarginsPacked {
     pub refusal: u32,
     pub bytes: u32,

@@ -103,7 +103,7 @@ pub fn product(scale: u32, a: i64, b: i64) -> i64
 }
 
 // c = Round(a·b), and what rounding lost: |a·b − c·Q|.
-#[derive(Drop)]
+#[derive(Clone, Copy)]
 pub struct Rounded {
     pub centre: i64,
     pub lost: u64,

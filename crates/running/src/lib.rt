@@ -7,7 +7,7 @@ use formulas::Header;
 use refusals::{Refusal, Verdict};
 
 // The header of a formula that a run starts on, or why it does not start and at which place.
-#[derive(Drop)]
+#[derive(Clone, Copy)]
 pub enum Start {
     On(Header),
     Refused(Refusal, usize),

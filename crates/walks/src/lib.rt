@@ -3,7 +3,7 @@ use bits::Cursor;
 use refusals::Refusal;
 
 // All instructions were carried out, with the place after them, or the refusal and the instruction that was refused.
-#[derive(Drop)]
+#[derive(Clone, Copy)]
 pub enum Walked {
     Finished(Cursor),
     Stopped(Refusal, usize),

@@ -3,7 +3,7 @@ ghost use Rattle.lists.specs.Written.{Wrote};
 ghost use Rattle.writing.specs.Pending.{MayPut, Puts, MayFinish, last_bytes};
 
 // The place of the next byte, and the bits that wait for it: the low `count` of `held`.
-#[derive(Drop)]
+#[derive(Clone, Copy)]
 pub struct Writer {
     pub at: usize,
     pub count: u32,

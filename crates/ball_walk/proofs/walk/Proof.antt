@@ -11,19 +11,19 @@ use Rattle.ball_walk.proofs.Turns.{centres_long, margins_long, centres_inside, m
 use Rattle.ball_walk.proofs.walk.Statement.{statement}
 use Rattle.ball_walk.proofs.walk.Tie as tie
 
-abbrev invariant-loop : tie.invariant-loop
-invariant-loop s h centres₀ margins₀ at₀ k₀ centres margins at k =
+abbrev invariant-loop-k : tie.invariant-loop-k
+invariant-loop-k s h centres₀ margins₀ at₀ k₀ centres margins at k =
     Walking ball_kind s h at k (ball_lists centres₀ margins₀) (ball_lists centres margins)
 
-abbrev decreases-loop : tie.decreases-loop
-decreases-loop s h centres₀ margins₀ at₀ k₀ centres margins at k = h.instructions - k
+abbrev decreases-loop-k : tie.decreases-loop-k
+decreases-loop-k s h centres₀ margins₀ at₀ k₀ centres margins at k = h.instructions - k
 
 pub walk_spec : {M : Type 1} → statement M
 walk_spec =
     tie.close
     (tie.spec
-    invariant-loop
-    decreases-loop
+    invariant-loop-k
+    decreases-loop-k
     (λ c. search (walking_start ball_lawful))
     (λ c. search (walking_made ball_lawful))
     (λ c κs. search (walking_within ball_lawful))

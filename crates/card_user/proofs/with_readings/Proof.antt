@@ -5,22 +5,22 @@ use Rattle.card_user.proofs.with_readings.Statement.{statement}
 use Rattle.card_user.proofs.with_readings.Tie as tie
 
 -- seven lists lent to calls are more than the search looks through
-put-margins-requires : tie.Need-put-margins-requires
+put-margins-requires : tie.Need-put_margins-requires
 put-margins-requires c κs =
     let fit = c.before.before in
     let room = fit.before.before in
     let a = room.before.before.before.before in
-    summable a.args.static_margins.now a.args.slopes.now a.args.output_margins.now a.requires room.has_room.ensures fit.before.if1.false
-    fit.card_fits.ensures c.before.if2.false
+    summable a.args.static_margins.now a.args.slopes.now a.args.output_margins-1.now a.requires room.has_room.ensures fit.before.if-not-has_room.false
+    fit.card_fits.ensures c.before.if-not-card_fits.false
 
-returns-3 : tie.Need-returns-3
+returns-3 : tie.Need-returns
 returns-3 c =
     let put = c.before.before in
     let fit = put.before.before.before in
     let room = fit.before.before in
     let a = room.before.before.before.before in
-    margins_put a.args.static_margins.now a.args.slopes.now a.args.output_margins.now a.requires room.has_room.ensures fit.before.if1.false
-    fit.card_fits.ensures put.before.before.if2.false put.put_margins.ensures
+    margins_put a.args.static_margins.now a.args.slopes.now a.args.output_margins-1.now a.requires room.has_room.ensures fit.before.if-not-has_room.false
+    fit.card_fits.ensures put.before.before.if-not-card_fits.false put.put_margins.ensures
 
 pub with_readings_spec : {M : Type 1} → statement M
 with_readings_spec =

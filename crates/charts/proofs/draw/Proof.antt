@@ -8,19 +8,19 @@ use Rattle.charts.proofs.Drawing.{centres_inside, margins_inside, drawn_one, dra
 use Rattle.charts.proofs.draw.Statement.{statement}
 use Rattle.charts.proofs.draw.Tie as tie
 
-abbrev invariant-loop : tie.invariant-loop
-invariant-loop scale count centres margins chart_centres₀ chart_margins₀ k₀ chart_centres chart_margins k =
+abbrev invariant-loop-k : tie.invariant-loop-k
+invariant-loop-k scale count centres margins chart_centres₀ chart_margins₀ k₀ chart_centres chart_margins k =
     Drawn scale count (ball_lists centres margins) (chart_lists chart_centres₀ chart_margins₀) (chart_lists chart_centres chart_margins) k
 
-abbrev decreases-loop : tie.decreases-loop
-decreases-loop scale count centres margins chart_centres₀ chart_margins₀ k₀ chart_centres chart_margins k = count - k
+abbrev decreases-loop-k : tie.decreases-loop-k
+decreases-loop-k scale count centres margins chart_centres₀ chart_margins₀ k₀ chart_centres chart_margins k = count - k
 
 pub draw_spec : {M : Type 1} → statement M
 draw_spec =
     tie.close
     (tie.spec
-    invariant-loop
-    decreases-loop
+    invariant-loop-k
+    decreases-loop-k
     (λ c. search drawn_none)
     (λ c. search offset_fits)
     (λ c. search centres_there)

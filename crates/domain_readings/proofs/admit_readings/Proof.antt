@@ -8,22 +8,22 @@ use Rattle.readings.proofs.Passing.{PassedBefore, wrong_count, none_tested, all_
 use Rattle.domain_readings.proofs.admit_readings.Statement.{statement}
 use Rattle.domain_readings.proofs.admit_readings.Tie as tie
 
-abbrev invariant-loop : tie.invariant-loop
-invariant-loop middles strays margins m i₀ i = PassedBefore m (domain_brought (domain middles strays margins)) i
+abbrev invariant-loop-i : tie.invariant-loop-i
+invariant-loop-i middles strays margins m i₀ i = PassedBefore m (domain_brought (domain middles strays margins)) i
 
-abbrev decreases-loop : tie.decreases-loop
-decreases-loop middles strays margins m i₀ i = m - i
+abbrev decreases-loop-i : tie.decreases-loop-i
+decreases-loop-i middles strays margins m i₀ i = m - i
 
 pub admit_readings_spec : {M : Type 1} → statement M
 admit_readings_spec =
     tie.close
     (tie.spec
-    invariant-loop
-    decreases-loop
-    (λ c. wrong_count (inl c.if1.true))
-    (λ c. wrong_count (inr (inl c.if2.true)))
-    (λ c. wrong_count (inr (inr (inl c.if3.true))))
-    (λ c. none_tested (one c.before.before.if1.false (one c.before.if2.false (one c.if3.false none))))
+    invariant-loop-i
+    decreases-loop-i
+    (λ c. wrong_count (inl c.if-middles-m.true))
+    (λ c. wrong_count (inr (inl c.if-strays-m.true)))
+    (λ c. wrong_count (inr (inr (inl c.if-margins-m.true))))
+    (λ c. none_tested (one c.before.before.if-middles-m.false (one c.before.if-strays-m.false (one c.if-margins-m.false none))))
     (λ c. search rules)
     (λ c. search rules)
     (λ c. search rules)

@@ -7,18 +7,18 @@ use Rattle.filling.proofs.Naming.{Naming, naming_none, naming_long, naming_insid
 use Rattle.filling.proofs.fill_outputs.Statement.{statement}
 use Rattle.filling.proofs.fill_outputs.Tie as tie
 
-abbrev invariant-loop : tie.invariant-loop
-invariant-loop s count outputs₀ at₀ k₀ outputs at k = Past at₀ at count k × Naming s at₀ count outputs₀ outputs k
+abbrev invariant-loop-k : tie.invariant-loop-k
+invariant-loop-k s count outputs₀ at₀ k₀ outputs at k = Past at₀ at count k × Naming s at₀ count outputs₀ outputs k
 
-abbrev decreases-loop : tie.decreases-loop
-decreases-loop s count outputs₀ at₀ k₀ outputs at k = count - k
+abbrev decreases-loop-k : tie.decreases-loop-k
+decreases-loop-k s count outputs₀ at₀ k₀ outputs at k = count - k
 
 pub fill_outputs_spec : {M : Type 1} → statement M
 fill_outputs_spec =
     tie.close
     (tie.spec
-    invariant-loop
-    decreases-loop
+    invariant-loop-k
+    decreases-loop-k
     (λ c. search (past_none, naming_none))
     (λ c κs. search (rules, field_near))
     (λ c. search rules)

@@ -9,22 +9,22 @@ use Rattle.filling.proofs.Listing.{codes_one, firsts_one, seconds_one}
 use Rattle.filling.proofs.fill_program.Statement.{statement}
 use Rattle.filling.proofs.fill_program.Tie as tie
 
-abbrev invariant-loop : tie.invariant-loop
-invariant-loop s h codes₀ firsts₀ seconds₀ at₀ k₀ codes firsts seconds at k =
+abbrev invariant-loop-k : tie.invariant-loop-k
+invariant-loop-k s h codes₀ firsts₀ seconds₀ at₀ k₀ codes firsts seconds at k =
     Turn s h at k
     × Listing (λ r. r.code) s h codes₀ codes k
     × Listing (λ r. r.first) s h firsts₀ firsts k
     × Listing (λ r. r.second) s h seconds₀ seconds k
 
-abbrev decreases-loop : tie.decreases-loop
-decreases-loop s h codes₀ firsts₀ seconds₀ at₀ k₀ codes firsts seconds at k = h.instructions - k
+abbrev decreases-loop-k : tie.decreases-loop-k
+decreases-loop-k s h codes₀ firsts₀ seconds₀ at₀ k₀ codes firsts seconds at k = h.instructions - k
 
 pub fill_program_spec : {M : Type 1} → statement M
 fill_program_spec =
     tie.close
     (tie.spec
-    invariant-loop
-    decreases-loop
+    invariant-loop-k
+    decreases-loop-k
     (λ c. search (turn_start, listing_none))
     (λ c κs. search turn_within)
     (λ c κs. search (loaded_near, turn_within, turn_readable))

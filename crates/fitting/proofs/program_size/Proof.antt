@@ -6,16 +6,16 @@ use Rattle.fitting.proofs.Programs.{Program, program_none, program_stops, progra
 use Rattle.fitting.proofs.program_size.Statement.{statement}
 use Rattle.fitting.proofs.program_size.Tie as tie
 
-abbrev invariant-loop : tie.invariant-loop
-invariant-loop codes firsts seconds scale inputs bits₀ k₀ bits k = Program scale inputs codes firsts seconds k bits
+abbrev invariant-loop-k : tie.invariant-loop-k
+invariant-loop-k codes firsts seconds scale inputs bits₀ k₀ bits k = Program scale inputs codes firsts seconds k bits
 
-abbrev decreases-loop : tie.decreases-loop
-decreases-loop codes firsts seconds scale inputs bits₀ k₀ bits k = length codes - k
+abbrev decreases-loop-k : tie.decreases-loop-k
+decreases-loop-k codes firsts seconds scale inputs bits₀ k₀ bits k = length codes - k
 
 pub program_size_spec : {M : Type 1} → statement M
 program_size_spec =
     tie.close
-    (tie.spec invariant-loop decreases-loop
+    (tie.spec invariant-loop-k decreases-loop-k
     (λ c. search program_none)
     (λ c. search rules)
     (λ c. search rules)

@@ -6,16 +6,16 @@ use Rattle.fitting.proofs.Programs.{Results, results_none, results_stop, results
 use Rattle.fitting.proofs.results_size.Statement.{statement}
 use Rattle.fitting.proofs.results_size.Tie as tie
 
-abbrev invariant-loop : tie.invariant-loop
-invariant-loop outputs values k₀ k = Results values outputs k
+abbrev invariant-loop-k : tie.invariant-loop-k
+invariant-loop-k outputs values k₀ k = Results values outputs k
 
-abbrev decreases-loop : tie.decreases-loop
-decreases-loop outputs values k₀ k = length outputs - k
+abbrev decreases-loop-k : tie.decreases-loop-k
+decreases-loop-k outputs values k₀ k = length outputs - k
 
 pub results_size_spec : {M : Type 1} → statement M
 results_size_spec =
     tie.close
-    (tie.spec invariant-loop decreases-loop
+    (tie.spec invariant-loop-k decreases-loop-k
     (λ c. search results_none)
     (λ c. search rules)
     (λ c. search rules)

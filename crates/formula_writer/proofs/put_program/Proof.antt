@@ -7,16 +7,16 @@ use Rattle.putting.proofs.Turns.{firsts_inside, seconds_inside, program_done}
 use Rattle.formula_writer.proofs.put_program.Statement.{statement}
 use Rattle.formula_writer.proofs.put_program.Tie as tie
 
-abbrev invariant-loop : tie.invariant-loop
-invariant-loop codes firsts seconds out₀ w₀ k₀ out w k = ProgramPutting codes firsts seconds w₀ out₀ k w out
+abbrev invariant-loop-k : tie.invariant-loop-k
+invariant-loop-k codes firsts seconds out₀ w₀ k₀ out w k = ProgramPutting codes firsts seconds w₀ out₀ k w out
 
-abbrev decreases-loop : tie.decreases-loop
-decreases-loop codes firsts seconds out₀ w₀ k₀ out w k = length codes - k
+abbrev decreases-loop-k : tie.decreases-loop-k
+decreases-loop-k codes firsts seconds out₀ w₀ k₀ out w k = length codes - k
 
 pub put_program_spec : {M : Type 1} → statement M
 put_program_spec =
     tie.close
-    (tie.spec invariant-loop decreases-loop
+    (tie.spec invariant-loop-k decreases-loop-k
     (λ c. search program_starts)
     (λ c. search rules)
     (λ c. search rules)

@@ -7,16 +7,16 @@ use Rattle.putting.proofs.Turns.{results_long, results_done}
 use Rattle.formula_writer.proofs.put_results.Statement.{statement}
 use Rattle.formula_writer.proofs.put_results.Tie as tie
 
-abbrev invariant-loop : tie.invariant-loop
-invariant-loop outputs out₀ w₀ k₀ out w k = ResultsPutting outputs w₀ out₀ k w out
+abbrev invariant-loop-k : tie.invariant-loop-k
+invariant-loop-k outputs out₀ w₀ k₀ out w k = ResultsPutting outputs w₀ out₀ k w out
 
-abbrev decreases-loop : tie.decreases-loop
-decreases-loop outputs out₀ w₀ k₀ out w k = length outputs - k
+abbrev decreases-loop-k : tie.decreases-loop-k
+decreases-loop-k outputs out₀ w₀ k₀ out w k = length outputs - k
 
 pub put_results_spec : {M : Type 1} → statement M
 put_results_spec =
     tie.close
-    (tie.spec invariant-loop decreases-loop
+    (tie.spec invariant-loop-k decreases-loop-k
     (λ c. search results_start)
     (λ c. search rules)
     (λ c. search rules)

@@ -8,22 +8,22 @@ use Rattle.outputs.proofs.Turns.{pick_left, pick_right, field_near, field_offset
 use Rattle.matryoshka_outputs.proofs.pick_triples.Statement.{statement}
 use Rattle.matryoshka_outputs.proofs.pick_triples.Tie as tie
 
-abbrev invariant-loop : tie.invariant-loop
-invariant-loop s count middles strays margins out_middles₀ out_strays₀ out_margins₀ at₀ k₀ out_middles out_strays out_margins at k =
+abbrev invariant-loop-k : tie.invariant-loop-k
+invariant-loop-k s count middles strays margins out_middles₀ out_strays₀ out_margins₀ at₀ k₀ out_middles out_strays out_margins at k =
     Past at₀ at count k
     × Picked (pos 0) s at₀ count middles out_middles₀ out_middles k
     × Picked 0 s at₀ count strays out_strays₀ out_strays k
     × Picked 0 s at₀ count margins out_margins₀ out_margins k
 
-abbrev decreases-loop : tie.decreases-loop
-decreases-loop s count middles strays margins out_middles₀ out_strays₀ out_margins₀ at₀ k₀ out_middles out_strays out_margins at k = count - k
+abbrev decreases-loop-k : tie.decreases-loop-k
+decreases-loop-k s count middles strays margins out_middles₀ out_strays₀ out_margins₀ at₀ k₀ out_middles out_strays out_margins at k = count - k
 
 pub pick_triples_spec : {M : Type 1} → statement M
 pick_triples_spec =
     tie.close
     (tie.spec
-    invariant-loop
-    decreases-loop
+    invariant-loop-k
+    decreases-loop-k
     (λ c. search (past_none, picked_none, pick_left, pick_right))
     (λ c κs. search (rules, field_near))
     (λ c. search rules)

@@ -12,19 +12,19 @@ use Rattle.matryoshka_walk.proofs.Turns.{matryoshki_go_on, matryoshki_stop}
 use Rattle.matryoshka_walk.proofs.walk.Statement.{statement}
 use Rattle.matryoshka_walk.proofs.walk.Tie as tie
 
-abbrev invariant-loop : tie.invariant-loop
-invariant-loop s h middles₀ strays₀ margins₀ at₀ k₀ middles strays margins at k =
+abbrev invariant-loop-k : tie.invariant-loop-k
+invariant-loop-k s h middles₀ strays₀ margins₀ at₀ k₀ middles strays margins at k =
     Walking matryoshka_kind s h at k (matryoshka_lists middles₀ strays₀ margins₀) (matryoshka_lists middles strays margins)
 
-abbrev decreases-loop : tie.decreases-loop
-decreases-loop s h middles₀ strays₀ margins₀ at₀ k₀ middles strays margins at k = h.instructions - k
+abbrev decreases-loop-k : tie.decreases-loop-k
+decreases-loop-k s h middles₀ strays₀ margins₀ at₀ k₀ middles strays margins at k = h.instructions - k
 
 pub walk_spec : {M : Type 1} → statement M
 walk_spec =
     tie.close
     (tie.spec
-    invariant-loop
-    decreases-loop
+    invariant-loop-k
+    decreases-loop-k
     (λ c. search (walking_start matryoshka_lawful))
     (λ c. search (walking_made matryoshka_lawful))
     (λ c κs. search (walking_within matryoshka_lawful))
@@ -40,7 +40,7 @@ walk_spec =
     (λ c. search margins_inside)
     (λ c. search (walking_next matryoshka_lawful))
     (λ c. search (walking_less matryoshka_lawful))
-    (λ c. search (matryoshki_go_on c.before.before.before.before.before.before.before.before.before.before.before.before.before.before.loop.invariant))
+    (λ c. search (matryoshki_go_on c.before.before.before.before.before.before.before.before.before.before.before.before.before.before.loop-k.invariant))
     (λ c. search middles_long)
     (λ c. search strays_long)
     (λ c. search margins_long)
@@ -48,4 +48,4 @@ walk_spec =
     (λ c. search middles_long)
     (λ c. search strays_long)
     (λ c. search margins_long)
-    (λ c. search (matryoshki_stop c.before.before.before.before.before.before.before.before.before.before.before.before.before.loop.invariant)))
+    (λ c. search (matryoshki_stop c.before.before.before.before.before.before.before.before.before.before.before.before.before.loop-k.invariant)))

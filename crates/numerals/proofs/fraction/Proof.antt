@@ -7,17 +7,17 @@ use Rattle.numerals.proofs.Reading.{Going, going, digit_added, fraction_ended, f
 use Rattle.numerals.proofs.fraction.Statement.{statement}
 use Rattle.numerals.proofs.fraction.Tie as tie
 
-abbrev invariant-loop : tie.invariant-loop
-invariant-loop text from left places value at₀ l₀ e₀ v₀ at l e v =
+abbrev invariant-loop-at : tie.invariant-loop-at
+invariant-loop-at text from left places value at₀ l₀ e₀ v₀ at l e v =
     Going text from at l e v (fraction_on l e v) (fraction_on left places value (drop from text))
 
-abbrev decreases-loop : tie.decreases-loop
-decreases-loop text from left places value at₀ l₀ e₀ v₀ at l e v = length text - at
+abbrev decreases-loop-at : tie.decreases-loop-at
+decreases-loop-at text from left places value at₀ l₀ e₀ v₀ at l e v = length text - at
 
 pub fraction_spec : {M : Type 1} → statement M
 fraction_spec =
     tie.close
-    (tie.spec invariant-loop decreases-loop
+    (tie.spec invariant-loop-at decreases-loop-at
     (λ c. going _ (search rules))
     (λ c. search rules) (λ c κs. search rules) (λ c. search rules) (λ c. search rules) (λ c. search rules)
     (λ c. search digit_added)

@@ -9,9 +9,9 @@ pub units_of_spec : {M : Type 1} → statement M
 units_of_spec =
     tie.close
     (tie.spec (λ c κs. search rules) (λ c. search rules)
-    (λ c. search (rules, operands c.before.requires c.power_of_ten.ensures))
-    (λ c. search (rules, operands c.before.requires c.power_of_ten.ensures))
-    (λ c. search (rules, operands c.before.requires c.power_of_ten.ensures))
-    (λ c. search (rules, operands c.before.requires c.power_of_ten.ensures))
-    (λ c. let o = operands c.before.requires c.power_of_ten.ensures in back_fits _ _ _ (omega arith) (omega arith))
+    (λ c. search (rules, operands c.before.requires c.power_of_ten-ten.ensures))
+    (λ c. search (rules, operands c.before.requires c.power_of_ten-ten.ensures))
+    (λ c. search (rules, operands c.before.requires c.power_of_ten-ten.ensures))
+    (λ c. search (rules, operands c.before.requires c.power_of_ten-ten.ensures))
+    (λ c. let o = operands c.before.requires c.power_of_ten-ten.ensures in back_fits _ _ _ (omega arith) (omega arith))
     (λ c. search (count_is, exactly, count_small)))

@@ -8,17 +8,17 @@ use Rattle.numerals.proofs.Reading.{whole_ended, whole_full, whole_so_far, whole
 use Rattle.numerals.proofs.whole.Statement.{statement}
 use Rattle.numerals.proofs.whole.Tie as tie
 
-abbrev invariant-loop : tie.invariant-loop
-invariant-loop text from left value at₀ l₀ v₀ at l v =
+abbrev invariant-loop-at : tie.invariant-loop-at
+invariant-loop-at text from left value at₀ l₀ v₀ at l v =
     Going text from at l 0 v (whole_on l v) (whole_on left value (drop from text))
 
-abbrev decreases-loop : tie.decreases-loop
-decreases-loop text from left value at₀ l₀ v₀ at l v = length text - at
+abbrev decreases-loop-at : tie.decreases-loop-at
+decreases-loop-at text from left value at₀ l₀ v₀ at l v = length text - at
 
 pub whole_spec : {M : Type 1} → statement M
 whole_spec =
     tie.close
-    (tie.spec invariant-loop decreases-loop
+    (tie.spec invariant-loop-at decreases-loop-at
     (λ c. going _ (search rules))
     (λ c. search rules) (λ c. search rules) (λ c. search rules) (λ c κs. search whole_so_far)
     (λ c. search whole_point)

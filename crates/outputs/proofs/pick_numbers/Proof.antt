@@ -7,18 +7,18 @@ use Rattle.outputs.proofs.Turns.{field_near, field_offset, number_kept, picked_n
 use Rattle.outputs.proofs.pick_numbers.Statement.{statement}
 use Rattle.outputs.proofs.pick_numbers.Tie as tie
 
-abbrev invariant-loop : tie.invariant-loop
-invariant-loop s count work out₀ at₀ k₀ out at k = Past at₀ at count k × Picked (pos 0) s at₀ count work out₀ out k
+abbrev invariant-loop-k : tie.invariant-loop-k
+invariant-loop-k s count work out₀ at₀ k₀ out at k = Past at₀ at count k × Picked (pos 0) s at₀ count work out₀ out k
 
-abbrev decreases-loop : tie.decreases-loop
-decreases-loop s count work out₀ at₀ k₀ out at k = count - k
+abbrev decreases-loop-k : tie.decreases-loop-k
+decreases-loop-k s count work out₀ at₀ k₀ out at k = count - k
 
 pub pick_numbers_spec : {M : Type 1} → statement M
 pick_numbers_spec =
     tie.close
     (tie.spec
-    invariant-loop
-    decreases-loop
+    invariant-loop-k
+    decreases-loop-k
     (λ c. search (past_none, picked_none))
     (λ c κs. search (rules, field_near))
     (λ c. search rules)

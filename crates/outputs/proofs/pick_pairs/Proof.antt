@@ -8,19 +8,19 @@ use Rattle.outputs.proofs.Turns.{pick_left, pick_right, field_near, field_offset
 use Rattle.outputs.proofs.pick_pairs.Statement.{statement}
 use Rattle.outputs.proofs.pick_pairs.Tie as tie
 
-abbrev invariant-loop : tie.invariant-loop
-invariant-loop s count centres margins out_centres₀ out_margins₀ at₀ k₀ out_centres out_margins at k =
+abbrev invariant-loop-k : tie.invariant-loop-k
+invariant-loop-k s count centres margins out_centres₀ out_margins₀ at₀ k₀ out_centres out_margins at k =
     Past at₀ at count k × Picked (pos 0) s at₀ count centres out_centres₀ out_centres k × Picked 0 s at₀ count margins out_margins₀ out_margins k
 
-abbrev decreases-loop : tie.decreases-loop
-decreases-loop s count centres margins out_centres₀ out_margins₀ at₀ k₀ out_centres out_margins at k = count - k
+abbrev decreases-loop-k : tie.decreases-loop-k
+decreases-loop-k s count centres margins out_centres₀ out_margins₀ at₀ k₀ out_centres out_margins at k = count - k
 
 pub pick_pairs_spec : {M : Type 1} → statement M
 pick_pairs_spec =
     tie.close
     (tie.spec
-    invariant-loop
-    decreases-loop
+    invariant-loop-k
+    decreases-loop-k
     (λ c. search (past_none, picked_none, pick_left, pick_right))
     (λ c κs. search (rules, field_near))
     (λ c. search rules)

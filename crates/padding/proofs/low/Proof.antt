@@ -8,7 +8,7 @@ use Rattle.whole.proofs.Machine.{one_shifted}
 use Rattle.padding.proofs.low.Statement.{statement}
 use Rattle.padding.proofs.low.Tie as tie
 
-rem_result : tie.Need-nonzero-rem-result
+rem_result : tie.Need-nonzero_rem-result
 rem_result c = let w = c.args.width in omega (arith, one_shifted w (omega arith), pow_pos w)
 
 returns : tie.Need-returns

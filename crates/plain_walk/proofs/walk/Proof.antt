@@ -9,18 +9,18 @@ use Rattle.plain_walk.proofs.Turns.{plain_long, plain_more, plain_stops}
 use Rattle.plain_walk.proofs.walk.Statement.{statement}
 use Rattle.plain_walk.proofs.walk.Tie as tie
 
-abbrev invariant-loop : tie.invariant-loop
-invariant-loop s h work₀ at₀ k₀ work at k = Walking plain_kind s h at k work₀ work
+abbrev invariant-loop-k : tie.invariant-loop-k
+invariant-loop-k s h work₀ at₀ k₀ work at k = Walking plain_kind s h at k work₀ work
 
-abbrev decreases-loop : tie.decreases-loop
-decreases-loop s h work₀ at₀ k₀ work at k = h.instructions - k
+abbrev decreases-loop-k : tie.decreases-loop-k
+decreases-loop-k s h work₀ at₀ k₀ work at k = h.instructions - k
 
 pub walk_spec : {M : Type 1} → statement M
 walk_spec =
     tie.close
     (tie.spec
-    invariant-loop
-    decreases-loop
+    invariant-loop-k
+    decreases-loop-k
     (λ c. search (walking_start plain_lawful))
     (λ c. search (walking_made plain_lawful))
     (λ c κs. search (walking_within plain_lawful))

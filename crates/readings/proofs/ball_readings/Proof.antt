@@ -8,21 +8,21 @@ use Rattle.readings.proofs.Passing.{PassedBefore, wrong_count, none_tested, all_
 use Rattle.readings.proofs.ball_readings.Statement.{statement}
 use Rattle.readings.proofs.ball_readings.Tie as tie
 
-abbrev invariant-loop : tie.invariant-loop
-invariant-loop centres margins m i₀ i = PassedBefore m (balls_brought (ball_readings centres margins)) i
+abbrev invariant-loop-i : tie.invariant-loop-i
+invariant-loop-i centres margins m i₀ i = PassedBefore m (balls_brought (ball_readings centres margins)) i
 
-abbrev decreases-loop : tie.decreases-loop
-decreases-loop centres margins m i₀ i = m - i
+abbrev decreases-loop-i : tie.decreases-loop-i
+decreases-loop-i centres margins m i₀ i = m - i
 
 pub ball_readings_spec : {M : Type 1} → statement M
 ball_readings_spec =
     tie.close
     (tie.spec
-    invariant-loop
-    decreases-loop
-    (λ c. wrong_count (inl c.if1.true))
-    (λ c. wrong_count (inr (inl c.if2.true)))
-    (λ c. none_tested (one c.before.if1.false (one c.if2.false none)))
+    invariant-loop-i
+    decreases-loop-i
+    (λ c. wrong_count (inl c.if-centres-m.true))
+    (λ c. wrong_count (inr (inl c.if-margins-m.true)))
+    (λ c. none_tested (one c.before.if-centres-m.false (one c.if-margins-m.false none)))
     (λ c. search rules)
     (λ c. search rules)
     (λ c. search rules)

@@ -8,20 +8,20 @@ use Rattle.readings.proofs.Passing.{PassedBefore, wrong_count, none_tested, all_
 use Rattle.readings.proofs.plain_readings.Statement.{statement}
 use Rattle.readings.proofs.plain_readings.Tie as tie
 
-abbrev invariant-loop : tie.invariant-loop
-invariant-loop readings m i₀ i = PassedBefore m (plain_brought readings) i
+abbrev invariant-loop-i : tie.invariant-loop-i
+invariant-loop-i readings m i₀ i = PassedBefore m (plain_brought readings) i
 
-abbrev decreases-loop : tie.decreases-loop
-decreases-loop readings m i₀ i = m - i
+abbrev decreases-loop-i : tie.decreases-loop-i
+decreases-loop-i readings m i₀ i = m - i
 
 pub plain_readings_spec : {M : Type 1} → statement M
 plain_readings_spec =
     tie.close
     (tie.spec
-    invariant-loop
-    decreases-loop
-    (λ c. wrong_count (inl c.if1.true))
-    (λ c. none_tested (one c.if1.false none))
+    invariant-loop-i
+    decreases-loop-i
+    (λ c. wrong_count (inl c.if-readings-m.true))
+    (λ c. none_tested (one c.if-readings-m.false none))
     (λ c. search rules)
     (λ c. search rules)
     (λ c κs. search rules)

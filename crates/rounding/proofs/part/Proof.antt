@@ -12,7 +12,7 @@ use Rattle.rounding.proofs.part.Lts as lts
 unit_is : (c : lts.Start reads.Pre reads.Post) → (1 * 2 ^ c.args.scale) % 2 ^ 64 ≡ 2 ^ c.args.scale
 unit_is c = one_shifted c.args.scale (omega arith)
 
-sub_result : tie.Need-overflow-sub-result
+sub_result : tie.Need-overflow_sub-result
 sub_result c = rw (unit_is c) c.requires.2
 
 returns : tie.Need-returns

@@ -10,7 +10,7 @@ use Rattle.rounding.proofs.Products.{product_size, product_held, round_held}
 use Rattle.rounding.proofs.product.Statement.{statement}
 use Rattle.rounding.proofs.product.Tie as tie
 
-mul_round : tie.Need-overflow-mul-round
+mul_round : tie.Need-overflow_mul-a
 mul_round c = fits (two c.args.a c.args.b c.requires.1 c.requires.2) (x₀ ⊗ x₁) tt
 
 round-requires : tie.Need-round-requires

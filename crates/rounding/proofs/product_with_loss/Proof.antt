@@ -19,9 +19,9 @@ returns c =
     let F = s.args.scale in
     let p = s.args.a *ℤ s.args.b in
     let e = product_held s.args.a s.args.b s.requires.1 s.requires.2 in
-    let r : c.before.before.before.round.result ≡ Round F p = c.before.before.before.round.ensures ∙ ap (Round F) e in
-    let l : c.apart.result ≡ nat_abs (p -ℤ Round F p *ℤ pos (Q F)) =
-    c.apart.ensures ∙ lost_apart F (back (back s.args.a *ℤ back s.args.b)) c.before.before.remainder.ensures c.before.half.ensures.0
+    let r : c.before.before.before.round-centre.result ≡ Round F p = c.before.before.before.round-centre.ensures ∙ ap (Round F) e in
+    let l : c.apart-lost.result ≡ nat_abs (p -ℤ Round F p *ℤ pos (Q F)) =
+    c.apart-lost.ensures ∙ lost_apart F (back (back s.args.a *ℤ back s.args.b)) c.before.before.remainder.ensures c.before.half.ensures.0
     ∙ ap (λ (z : ℤ). nat_abs (z -ℤ Round F z *ℤ pos (Q F))) e in
     (round_held s.requires.0 s.args.a s.args.b s.requires.1 s.requires.2 r, l, le_trans (le_of_eq l) (round_loss F p))
 

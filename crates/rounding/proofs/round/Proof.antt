@@ -27,10 +27,10 @@ small c = omega (arith, is_half c, half_bound c.before.requires.0)
 bounds : (c : lts.After-part (part_reads.Asked, part_reads.Learnt) reads.Pre reads.Post) → Within (c.before.args.p ∷ pos c.part.result ∷ []) (M * M ∷ 2 ^ 30 ∷ [])
 bounds c = more c.before.requires.1 (more (small c) none)
 
-cast_result : tie.Need-overflow-cast-result
+cast_result : tie.Need-overflow_cast-result
 cast_result c = fits_size (omega (arith, small c))
 
-add_result : tie.Need-overflow-add-result
+add_result : tie.Need-overflow_add-result
 add_result c = fits (bounds c) (x₀ ⊕ x₁) tt
 
 returns : tie.Need-returns

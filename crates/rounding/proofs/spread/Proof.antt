@@ -21,13 +21,13 @@ jointly p s q r hp hq hr = omega (arith, mul-le-mul hp hq, mul-le-mul_left q hr,
 together : (c : lts.Start reads.Pre reads.Post) → c.args.p * c.args.s + c.args.q * c.args.r ≤ M * M
 together c = jointly c.args.p c.args.s c.args.q c.args.r c.requires.0 c.requires.1 c.requires.2
 
-mul_result : tie.Need-overflow-mul-result
+mul_result : tie.Need-overflow_mul-result
 mul_result c = record { fits = omega (arith, together c) }
 
-mul_result_2 : tie.Need-overflow-mul-result-2
+mul_result_2 : tie.Need-overflow_mul-result-2
 mul_result_2 c = record { fits = omega (arith, together c) }
 
-add_result : tie.Need-overflow-add-result
+add_result : tie.Need-overflow_add-result
 add_result c = record { fits = omega (arith, together c) }
 
 returns : tie.Need-returns

@@ -18,7 +18,7 @@ is_most c = omega (arith, c.part.ensures, unit_part c.before.args.scale)
 part-requires : tie.Need-part-requires
 part-requires c κs = (c.requires.0, omega arith, omega (arith, unit_part c.args.scale, pow_pos c.args.scale))
 
-add_result : tie.Need-overflow-add-result
+add_result : tie.Need-overflow_add-result
 add_result c = record { fits = omega (arith, is_most c, unit_bound c.before.requires.0, c.before.requires.1) }
 
 returns : tie.Need-returns

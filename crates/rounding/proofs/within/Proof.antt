@@ -9,13 +9,13 @@ use Rattle.whole.proofs.Order.{leb_same}
 use Rattle.rounding.proofs.within.Statement.{statement}
 use Rattle.rounding.proofs.within.Tie as tie
 
-returns : tie.Need-returns
+returns : tie.Need-returns-then-size-gt-LIMIT
 returns c = let s = c.before in sym (lt-leb (s.args.size + s.args.stray + s.args.margin) M (omega arith))
 
-returns-2 : tie.Need-returns-2
+returns-2 : tie.Need-returns-then-size-stray
 returns-2 c = let s = c.before.before in sym (lt-leb (s.args.size + s.args.stray + s.args.margin) M (omega arith))
 
-returns-3 : tie.Need-returns-3
+returns-3 : tie.Need-returns
 returns-3 c =
     let s = c.before.before in
     leb_same s.args.margin (M - s.args.size - s.args.stray) (s.args.size + s.args.stray + s.args.margin) M (omega arith) (omega arith)

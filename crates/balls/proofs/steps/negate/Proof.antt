@@ -10,7 +10,7 @@ use Rattle.rounding.proofs.Linear.{one, centre_size, negated, negated_is}
 use Rattle.balls.proofs.steps.negate.Statement.{statement}
 use Rattle.balls.proofs.steps.negate.Tie as tie
 
-sub_t2 : tie.Need-overflow-sub-t2
+sub_t2 : tie.Need-overflow_sub-x
 sub_t2 c = let s = c.before.before in fits (one s.args.x.centre (centre_size s.args.x s.requires)) negated tt
 
 returns : tie.Need-returns

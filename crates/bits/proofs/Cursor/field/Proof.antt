@@ -10,17 +10,17 @@ use borrow.Author.Rules.{rules}
 use Rattle.bits.proofs.Cursor.field.Statement.{statement}
 use Rattle.bits.proofs.Cursor.field.Tie as tie
 
-returns : tie.Need-returns
+returns : tie.Need-returns-then-s-end
 returns c =
     let a = c.before.before.before.args in
     (field_short a.s.now a.self a.width (omega arith) (omega arith), tt)
 
-rem_n : tie.Need-nonzero-rem-n
+rem_n : tie.Need-nonzero_rem-n
 rem_n c =
     let w = c.before.before.before.before.args.width in
     omega (arith, one_shifted w (omega arith), pow_pos w)
 
-returns-2 : tie.Need-returns-2
+returns-2 : tie.Need-returns
 returns-2 c =
     let a = c.before.before.before.before.args in
     let w = a.width in

@@ -5,18 +5,18 @@ use Rattle.card_user.proofs.Fronts.{Copied, copied_none, copied_inside, copied_o
 use Rattle.card_user.proofs.adding.copy_front.Statement.{statement}
 use Rattle.card_user.proofs.adding.copy_front.Tie as tie
 
-abbrev invariant-loop : tie.invariant-loop
-invariant-loop from count to₀ k₀ to k = Copied from count to₀ to k
+abbrev invariant-loop-k : tie.invariant-loop-k
+invariant-loop-k from count to₀ k₀ to k = Copied from count to₀ to k
 
-abbrev decreases-loop : tie.decreases-loop
-decreases-loop from count to₀ k₀ to k = count - k
+abbrev decreases-loop-k : tie.decreases-loop-k
+decreases-loop-k from count to₀ k₀ to k = count - k
 
 pub copy_front_spec : {M : Type 1} → statement M
 copy_front_spec =
     tie.close
     (tie.spec
-    invariant-loop
-    decreases-loop
+    invariant-loop-k
+    decreases-loop-k
     (λ c. search copied_none)
     (λ c. search rules)
     (λ c. search rules)

@@ -5,18 +5,18 @@ use Rattle.card_user.proofs.Sums.{Added, added_none, added_past, added_all, marg
 use Rattle.card_user.proofs.adding.margin_of.Statement.{statement}
 use Rattle.card_user.proofs.adding.margin_of.Tie as tie
 
-abbrev invariant-loop : tie.invariant-loop
-invariant-loop scale static_margin slopes at m margins sum₀ i₀ sum i = Added scale static_margin slopes at m margins sum i
+abbrev invariant-loop-i : tie.invariant-loop-i
+invariant-loop-i scale static_margin slopes at m margins sum₀ i₀ sum i = Added scale static_margin slopes at m margins sum i
 
-abbrev decreases-loop : tie.decreases-loop
-decreases-loop scale static_margin slopes at m margins sum₀ i₀ sum i = m - i
+abbrev decreases-loop-i : tie.decreases-loop-i
+decreases-loop-i scale static_margin slopes at m margins sum₀ i₀ sum i = m - i
 
 pub margin_of_spec : {M : Type 1} → statement M
 margin_of_spec =
     tie.close
     (tie.spec
-    invariant-loop
-    decreases-loop
+    invariant-loop-i
+    decreases-loop-i
     (λ c. search added_none)
     (λ c. search added_past)
     (λ c. search (rules, margin_there))

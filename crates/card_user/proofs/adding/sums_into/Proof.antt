@@ -5,18 +5,18 @@ use Rattle.card_user.proofs.Sums.{Summed, summed_none, summed_long, summed_all, 
 use Rattle.card_user.proofs.adding.sums_into.Statement.{statement}
 use Rattle.card_user.proofs.adding.sums_into.Tie as tie
 
-abbrev invariant-loop : tie.invariant-loop
-invariant-loop scale m n static_margins slopes margins out₀ j₀ out j = Summed scale m n static_margins slopes margins out₀ out j
+abbrev invariant-loop-j : tie.invariant-loop-j
+invariant-loop-j scale m n static_margins slopes margins out₀ j₀ out j = Summed scale m n static_margins slopes margins out₀ out j
 
-abbrev decreases-loop : tie.decreases-loop
-decreases-loop scale m n static_margins slopes margins out₀ j₀ out j = n - j
+abbrev decreases-loop-j : tie.decreases-loop-j
+decreases-loop-j scale m n static_margins slopes margins out₀ j₀ out j = n - j
 
 pub sums_into_spec : {M : Type 1} → statement M
 sums_into_spec =
     tie.close
     (tie.spec
-    invariant-loop
-    decreases-loop
+    invariant-loop-j
+    decreases-loop-j
     (λ c. search summed_none)
     (λ c. search rules)
     (λ c. search static_inside)

@@ -7,18 +7,18 @@ use Rattle.card_user.proofs.Inside.{numbers_small, sticks_out, one_inside, all_l
 use Rattle.card_user.proofs.testing.all_inside.Statement.{statement}
 use Rattle.card_user.proofs.testing.all_inside.Tie as tie
 
-abbrev invariant-loop : tie.invariant-loop
-invariant-loop middles strays centres margins m i₀ i = InsideBefore m (ball_readings middles strays) (ball_readings centres margins) i
+abbrev invariant-loop-i : tie.invariant-loop-i
+invariant-loop-i middles strays centres margins m i₀ i = InsideBefore m (ball_readings middles strays) (ball_readings centres margins) i
 
-abbrev decreases-loop : tie.decreases-loop
-decreases-loop middles strays centres margins m i₀ i = m - i
+abbrev decreases-loop-i : tie.decreases-loop-i
+decreases-loop-i middles strays centres margins m i₀ i = m - i
 
 pub all_inside_spec : {M : Type 1} → statement M
 all_inside_spec =
     tie.close
     (tie.spec
-    invariant-loop
-    decreases-loop
+    invariant-loop-i
+    decreases-loop-i
     (λ c. search none_looked_at)
     (λ c. search rules)
     (λ c. search middles_there)
@@ -32,5 +32,5 @@ all_inside_spec =
     (λ c. search sticks_out)
     (λ c. search rules)
     (λ c. search rules)
-    (λ c. one_inside (search rules) (search rules) c.before.is_inside.ensures c.if1.false (search rules))
+    (λ c. one_inside (search rules) (search rules) c.before.is_inside.ensures c.if-not-is_inside.false (search rules))
     (λ c. search all_looked_at))

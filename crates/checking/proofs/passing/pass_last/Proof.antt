@@ -6,15 +6,15 @@ use Rattle.checking.proofs.Several.{Passing, none_passed, all_passed, instructio
 use Rattle.checking.proofs.passing.pass_last.Statement.{statement}
 use Rattle.checking.proofs.passing.pass_last.Tie as tie
 
-abbrev invariant-loop : tie.invariant-loop
-invariant-loop s scale first count at₀ k₀ at k = Passing (instruction scale) widest s at₀ first count at k
+abbrev invariant-loop-k : tie.invariant-loop-k
+invariant-loop-k s scale first count at₀ k₀ at k = Passing (instruction scale) widest s at₀ first count at k
 
-abbrev decreases-loop : tie.decreases-loop
-decreases-loop s scale first count at₀ k₀ at k = count - k
+abbrev decreases-loop-k : tie.decreases-loop-k
+decreases-loop-k s scale first count at₀ k₀ at k = count - k
 
 pub pass_last_spec : {M : Type 1} → statement M
 pass_last_spec =
     tie.close
-    (tie.spec invariant-loop decreases-loop (λ c. search none_passed) (λ c. search rules) (λ c κs. search rules)
+    (tie.spec invariant-loop-k decreases-loop-k (λ c. search none_passed) (λ c. search rules) (λ c κs. search rules)
     (λ c. search rules) (λ c. search rules) (λ c. search rules) (λ c. search rules) (λ c. search instruction_passed)
     (λ c. search all_passed) (λ c. search instruction_refused))

@@ -12,7 +12,7 @@ use Rattle.rounding.proofs.Linear.{middles}
 use Rattle.matryoshki.proofs.steps.add.Statement.{statement}
 use Rattle.matryoshki.proofs.steps.add.Tie as tie
 
-add_t3 : tie.Need-overflow-add-t3
+add_t3 : tie.Need-overflow_add-x
 add_t3 c = let s = c.before.before.before.before in fits (middles s.args.x s.args.y s.requires.0 s.requires.1) (x₀ ⊕ x₁) tt
 
 returns : tie.Need-returns

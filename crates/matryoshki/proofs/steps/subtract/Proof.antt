@@ -12,7 +12,7 @@ use Rattle.rounding.proofs.Linear.{middles}
 use Rattle.matryoshki.proofs.steps.subtract.Statement.{statement}
 use Rattle.matryoshki.proofs.steps.subtract.Tie as tie
 
-sub_t3 : tie.Need-overflow-sub-t3
+sub_t3 : tie.Need-overflow_sub-x
 sub_t3 c = let s = c.before.before.before.before in fits (middles s.args.x s.args.y s.requires.0 s.requires.1) (x₀ ⊖ x₁) tt
 
 returns : tie.Need-returns

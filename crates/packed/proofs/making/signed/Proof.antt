@@ -13,21 +13,21 @@ use Rattle.packed.proofs.Instructions.{twos_complement_low, twos_complement_high
 use Rattle.packed.proofs.making.signed.Statement.{statement}
 use Rattle.packed.proofs.making.signed.Tie as tie
 
-sub_result : tie.Need-overflow-sub-result
+sub_result : tie.Need-overflow_sub-result
 sub_result c =
     let w : Within (pos c.before.args.n ∷ []) (2 ^ 32 ∷ []) = more (le_of_lt c.before.requires) none in
     fits w (x₀ ⊖ lit (pos (2 ^ 32))) tt
 
-returns : tie.Need-returns
+returns : tie.Need-returns-then-n-lt2147483648
 returns c =
     let n = c.before.args.n in
-    back_is (pos n) (omega arith) ∙ sym (twos_complement_low n c.if1.true)
+    back_is (pos n) (omega arith) ∙ sym (twos_complement_low n c.if-n-lt2147483648.true)
 
-returns-2 : tie.Need-returns-2
+returns-2 : tie.Need-returns-else-n-lt2147483648
 returns-2 c =
     let n = c.before.args.n in
     let w : Within (pos n ∷ []) (2 ^ 32 ∷ []) = more (le_of_lt c.before.requires) none in
-    held_is w (x₀ ⊖ lit (pos (2 ^ 32))) tt ∙ sym (twos_complement_high n c.if1.false)
+    held_is w (x₀ ⊖ lit (pos (2 ^ 32))) tt ∙ sym (twos_complement_high n c.if-n-lt2147483648.false)
 
 pub signed_spec : {M : Type 1} → statement M
 signed_spec = tie.close (tie.spec (λ c. search rules) (λ c. search rules) sub_result returns returns-2)

@@ -6,16 +6,16 @@ use Rattle.parsing.proofs.Cuts.{Searched, searched_none, searched_one, searched_
 use Rattle.parsing.proofs.finding.find.Statement.{statement}
 use Rattle.parsing.proofs.finding.find.Tie as tie
 
-abbrev invariant-loop : tie.invariant-loop
-invariant-loop s b i₀ i = Searched b s i
+abbrev invariant-loop-i : tie.invariant-loop-i
+invariant-loop-i s b i₀ i = Searched b s i
 
-abbrev decreases-loop : tie.decreases-loop
-decreases-loop s b i₀ i = length s - i
+abbrev decreases-loop-i : tie.decreases-loop-i
+decreases-loop-i s b i₀ i = length s - i
 
 pub find_spec : {M : Type 1} → statement M
 find_spec =
     tie.close
-    (tie.spec invariant-loop decreases-loop
+    (tie.spec invariant-loop-i decreases-loop-i
     (λ c. search searched_none)
     (λ c. search rules) (λ c. search searched_found)
     (λ c. search rules) (λ c. search rules) (λ c. search searched_one)

@@ -10,7 +10,7 @@ use Rattle.rounding.proofs.Linear.{two}
 use Rattle.plain.proofs.steps.add.Statement.{statement}
 use Rattle.plain.proofs.steps.add.Tie as tie
 
-add_keep : tie.Need-overflow-add-keep
+add_keep : tie.Need-overflow_add-a
 add_keep c = let s = c in fits (two s.args.a s.args.b s.requires.0 s.requires.1) (x₀ ⊕ x₁) tt
 
 returns : tie.Need-returns

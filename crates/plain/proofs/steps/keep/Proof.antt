@@ -15,22 +15,22 @@ use Rattle.whole.proofs.Machine.{size_back}
 use Rattle.plain.proofs.steps.keep.Statement.{statement}
 use Rattle.plain.proofs.steps.keep.Tie as tie
 
-returns : tie.Need-returns
+returns : tie.Need-returns-then-within
 returns c =
     let s = c.before.before.before in
     let x = s.args.x in
     let m = c.before.before.magnitude in
     let e : m.result ≡ nat_abs x = m.ensures ∙ size_back x s.ranges.x.sfits in
-    let t : m.result + 0 + 0 ≤ M = leb-true (m.result + 0 + 0) M (sym c.before.within.ensures ∙ c.if1.true) in
+    let t : m.result + 0 + 0 ≤ M = leb-true (m.result + 0 + 0) M (sym c.before.within.ensures ∙ c.if-within.true) in
     ap value (to_z-of_z w64 x s.ranges.x) ∙ sym (reach_accepts plain_reach x (omega arith))
 
-returns-2 : tie.Need-returns-2
+returns-2 : tie.Need-returns-else-within
 returns-2 c =
     let s = c.before.before.before in
     let x = s.args.x in
     let m = c.before.before.magnitude in
     let e : m.result ≡ nat_abs x = m.ensures ∙ size_back x s.ranges.x.sfits in
-    let t : M < m.result + 0 + 0 = leb-false (m.result + 0 + 0) M (sym c.before.within.ensures ∙ c.if1.false) in
+    let t : M < m.result + 0 + 0 = leb-false (m.result + 0 + 0) M (sym c.before.within.ensures ∙ c.if-within.false) in
     sym (reach_refuses plain_reach x (omega arith))
 
 pub keep_spec : {M : Type 1} → statement M

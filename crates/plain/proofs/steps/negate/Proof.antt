@@ -9,7 +9,7 @@ use Rattle.rounding.proofs.Linear.{one, negated, negated_is}
 use Rattle.plain.proofs.steps.negate.Statement.{statement}
 use Rattle.plain.proofs.steps.negate.Tie as tie
 
-sub_keep : tie.Need-overflow-sub-keep
+sub_keep : tie.Need-overflow_sub-a
 sub_keep c = let s = c in fits (one s.args.a s.requires) negated tt
 
 returns : tie.Need-returns

@@ -10,7 +10,7 @@ use Rattle.rounding.proofs.Linear.{two}
 use Rattle.plain.proofs.steps.subtract.Statement.{statement}
 use Rattle.plain.proofs.steps.subtract.Tie as tie
 
-sub_keep : tie.Need-overflow-sub-keep
+sub_keep : tie.Need-overflow_sub-a
 sub_keep c = let s = c in fits (two s.args.a s.args.b s.requires.0 s.requires.1) (x₀ ⊖ x₁) tt
 
 returns : tie.Need-returns

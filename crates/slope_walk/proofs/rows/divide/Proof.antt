@@ -6,18 +6,18 @@ use Rattle.slope_walk.proofs.Weighing.{divided_inside, divided_to_inside, divide
 use Rattle.slope_walk.proofs.rows.divide.Statement.{statement}
 use Rattle.slope_walk.proofs.rows.divide.Tie as tie
 
-abbrev invariant-loop : tie.invariant-loop
-invariant-loop scale inputs a w to slopes₀ i₀ slopes i = Dividing scale inputs a w to slopes₀ slopes i
+abbrev invariant-loop-i : tie.invariant-loop-i
+invariant-loop-i scale inputs a w to slopes₀ i₀ slopes i = Dividing scale inputs a w to slopes₀ slopes i
 
-abbrev decreases-loop : tie.decreases-loop
-decreases-loop scale inputs a w to slopes₀ i₀ slopes i = inputs - i
+abbrev decreases-loop-i : tie.decreases-loop-i
+decreases-loop-i scale inputs a w to slopes₀ i₀ slopes i = inputs - i
 
 pub divide_spec : {M : Type 1} → statement M
 divide_spec =
     tie.close
     (tie.spec
-    invariant-loop
-    decreases-loop
+    invariant-loop-i
+    decreases-loop-i
     (λ c. search dividing_start)
     (λ c. search rules)
     (λ c. search rules)

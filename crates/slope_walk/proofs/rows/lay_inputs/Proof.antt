@@ -7,38 +7,38 @@ use Rattle.slope_walk.proofs.Inputs.{some_inputs, starting_inside, starting_own,
 use Rattle.slope_walk.proofs.rows.lay_inputs.Statement.{statement}
 use Rattle.slope_walk.proofs.rows.lay_inputs.Tie as tie
 
-abbrev invariant-loop : tie.invariant-loop
-invariant-loop scale inputs slopes₀ q all j₀ slopes j = Starting scale inputs q slopes₀ slopes j
+abbrev invariant-loop-j : tie.invariant-loop-j
+invariant-loop-j scale inputs slopes₀ q all j₀ slopes j = Starting scale inputs q slopes₀ slopes j
 
-abbrev decreases-loop : tie.decreases-loop
-decreases-loop scale inputs slopes₀ q all j₀ slopes j = inputs * inputs - j
+abbrev decreases-loop-j : tie.decreases-loop-j
+decreases-loop-j scale inputs slopes₀ q all j₀ slopes j = inputs * inputs - j
 
-mul_slopes : tie.Need-overflow-mul-slopes invariant-loop decreases-loop
+mul_slopes : tie.Need-overflow-mul-slopes invariant-loop-j decreases-loop-j
 mul_slopes c =
-    let w = c.before.before.loop.invariant in
-    let inside = starting_inside w c.before.loop-test.true in
+    let w = c.before.before.loop-j.invariant in
+    let inside = starting_inside w c.before.loop-j-test.true in
     let long = starting_long w in
     search rules
 
-add_j : tie.Need-overflow-add-j invariant-loop decreases-loop
+add_j : tie.Need-overflow_add-j invariant-loop-j decreases-loop-j
 add_j c =
-    let w = c.before.before.loop.invariant in
-    let inside = starting_inside w c.before.loop-test.true in
+    let w = c.before.before.loop-j.invariant in
+    let inside = starting_inside w c.before.loop-j-test.true in
     let long = starting_long w in
     search rules
 
-loop_again : tie.Need-loop-preserved invariant-loop decreases-loop
+loop_again : tie.Need-loop-j-preserved invariant-loop-j decreases-loop-j
 loop_again c =
-    let w = c.before.before.loop.invariant in
-    let more = c.before.loop-test.true in
-    ⊎_elim (λ a. rw a.1 (starting_own w more a.0.taken)) (λ a. rw a.1 (starting_other w more a.0.left)) c.if1.branch
+    let w = c.before.before.loop-j.invariant in
+    let more = c.before.loop-j-test.true in
+    ⊎_elim (λ a. rw a.1 (starting_own w more a.0.taken)) (λ a. rw a.1 (starting_other w more a.0.left)) c.if-j-inputs.branch
 
 pub lay_inputs_spec : {M : Type 1} → statement M
 lay_inputs_spec =
     tie.close
     (tie.spec
-    invariant-loop
-    decreases-loop
+    invariant-loop-j
+    decreases-loop-j
     (λ c κs. search rules)
     (λ c. search all_fits)
     (λ c. search starting_none)

@@ -4,7 +4,7 @@ use Rattle.slope_walk.proofs.Single.{product_fits, products_low}
 use Rattle.slope_walk.proofs.rows.one_weighed.Statement.{statement}
 use Rattle.slope_walk.proofs.rows.one_weighed.Tie as tie
 
-add_up_of_two : tie.Need-overflow-add-up-of-two
+add_up_of_two : tie.Need-overflow_add-x
 add_up_of_two c =
     let p = c.requires in
     let l = products_low p.1 p.2 p.3 p.4 in

@@ -6,18 +6,18 @@ use Rattle.slope_walk.proofs.Weighing.{first_inside, second_inside, to_inside, f
 use Rattle.slope_walk.proofs.rows.weigh.Statement.{statement}
 use Rattle.slope_walk.proofs.rows.weigh.Tie as tie
 
-abbrev invariant-loop : tie.invariant-loop
-invariant-loop scale inputs a y b x to slopes₀ i₀ slopes i = Weighing scale inputs a y b x to slopes₀ slopes i
+abbrev invariant-loop-i : tie.invariant-loop-i
+invariant-loop-i scale inputs a y b x to slopes₀ i₀ slopes i = Weighing scale inputs a y b x to slopes₀ slopes i
 
-abbrev decreases-loop : tie.decreases-loop
-decreases-loop scale inputs a y b x to slopes₀ i₀ slopes i = inputs - i
+abbrev decreases-loop-i : tie.decreases-loop-i
+decreases-loop-i scale inputs a y b x to slopes₀ i₀ slopes i = inputs - i
 
 pub weigh_spec : {M : Type 1} → statement M
 weigh_spec =
     tie.close
     (tie.spec
-    invariant-loop
-    decreases-loop
+    invariant-loop-i
+    decreases-loop-i
     (λ c. search weighing_start)
     (λ c. search rules)
     (λ c. search rules)

@@ -7,25 +7,25 @@ use Rattle.slope_walk.proofs.Turns.{grading_within, grading_readable, grading_st
 use Rattle.slope_walk.proofs.walking.grade.Statement.{statement}
 use Rattle.slope_walk.proofs.walking.grade.Tie as tie
 
-abbrev invariant-loop : tie.invariant-loop
-invariant-loop s h centres margins slopes₀ at₀ k₀ slopes at k = Grading s h centres margins at k slopes₀ slopes
+abbrev invariant-loop-k : tie.invariant-loop-k
+invariant-loop-k s h centres margins slopes₀ at₀ k₀ slopes at k = Grading s h centres margins at k slopes₀ slopes
 
-abbrev decreases-loop : tie.decreases-loop
-decreases-loop s h centres margins slopes₀ at₀ k₀ slopes at k = h.instructions - k
+abbrev decreases-loop-k : tie.decreases-loop-k
+decreases-loop-k s h centres margins slopes₀ at₀ k₀ slopes at k = h.instructions - k
 
 -- the row that was given up has left the list as long as it was
-still_long : tie.Need-same-length-2 invariant-loop decreases-loop
+still_long : tie.Need-shape_of-slopes-else-step invariant-loop-k decreases-loop-k
 still_long c =
     let step = c.before.before.before.step in
-    let loop = c.before.before.before.before.before.before.before.before.before.before.before.loop in
+    let loop = c.before.before.before.before.before.before.before.before.before.before.before.loop-k in
     step.auto.1.1.1.1.1.1.0 ∙ grading_long loop.invariant
 
 pub grade_spec : {M : Type 1} → statement M
 grade_spec =
     tie.close
     (tie.spec
-    invariant-loop
-    decreases-loop
+    invariant-loop-k
+    decreases-loop-k
     (λ c. search grading_start)
     (λ c. search grading_made)
     (λ c κs. search grading_within)

@@ -5,16 +5,16 @@ use Rattle.writing.proofs.Giving.{Giving, giving_inside, giving_few, giving_one,
 use Rattle.writing.proofs.Writer.finish.Statement.{statement}
 use Rattle.writing.proofs.Writer.finish.Tie as tie
 
-abbrev invariant-loop : tie.invariant-loop
-invariant-loop out₀ padding held count₀ at₀ out count at = Giving held count₀ at₀ out₀ out count at
+abbrev invariant-loop-count : tie.invariant-loop-count
+invariant-loop-count out₀ padding held count₀ at₀ out count at = Giving held count₀ at₀ out₀ out count at
 
-abbrev decreases-loop : tie.decreases-loop
-decreases-loop out₀ padding held count₀ at₀ out count at = count
+abbrev decreases-loop-count : tie.decreases-loop-count
+decreases-loop-count out₀ padding held count₀ at₀ out count at = count
 
 pub finish_spec : {M : Type 1} → statement M
 finish_spec =
     tie.close
-    (tie.spec invariant-loop decreases-loop
+    (tie.spec invariant-loop-count decreases-loop-count
     (λ c. search rules)
     (λ c. search rules)
     (λ c. search rules)
