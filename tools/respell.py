@@ -10,7 +10,7 @@ import os
 import re
 import sys
 
-NAME = re.compile(r"(?<![\w'/.-])(?:[^\W\d]|\u2115|\u2124)[\w']*(?:-[\w']+)+|(?<=\.)[^\W\d][\w']*(?:-[\w']+)+")
+NAME = re.compile(r"(?<![\w'/.-])(?!b'-')(?:[^\W\d]|\u2115|\u2124)[\w']*(?:-[\w']+)+|(?<=\.)[^\W\d][\w']*(?:-[\w']+)+")
 MADE = re.compile(r"(Need|Lts|After)-.*|(loop|invariant|decreases|returns)-\d|invariant-loop.*|decreases-loop.*|returns-\d|t-\d|turn-\d|loop-test.*|.*-requires(-\d)?")
 LIBRARY = set(
     """

@@ -47,7 +47,7 @@ pub fn put_signed(count: i64, decimals: u32, out: &mut [u8], at: usize) -> usize
     ensures { Wrote (text decimals count) at out.old out.new result }
 {
     if count < 0 {
-        let next = put(b'_', out, at);
+        let next = put(b'-', out, at);
         return put_unsigned(magnitude(count), decimals, out, next);
     }
     put_unsigned(magnitude(count), decimals, out, at)

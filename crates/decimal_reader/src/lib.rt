@@ -37,7 +37,7 @@ fn minus_first(text: &[u8]) -> bool
     ensures { result ≡ minus_first text.now }
 {
     if 0 < text.len() {
-        return text[0] == b'_';
+        return text[0] == b'-';
     }
     false
 }

@@ -52,7 +52,7 @@ fn begin_of(text: &[u8], at: usize, inputs: usize) -> Begin
         if b == b'(' {
             return Begin::Parenthesis;
         }
-        if b == b'_' {
+        if b == b'-' {
             return Begin::Minus;
         }
         if 97 <= b {
@@ -82,7 +82,7 @@ fn joining(text: &[u8], at: usize) -> u64
         if text[at] == b'+' {
             return 2;
         }
-        if text[at] == b'_' {
+        if text[at] == b'-' {
             return 3;
         }
     }

@@ -22,7 +22,7 @@ fn put_signed(x: i64, out: &mut [u8], at: usize) -> usize
     ensures { Wrote (signed_decimal x) at out.old out.new result }
 {
     if x < 0 {
-        let next = put(b'_', out, at);
+        let next = put(b'-', out, at);
         return put_number(magnitude(x), out, next);
     }
     put_number(magnitude(x), out, at)

@@ -1,4 +1,6 @@
 -- `use_card` meets its contract. Assumes nothing.
+use mathlib.Core.Path.{ap}
+use mathlib.Core.Bool.{not}
 use lib.Dec.{lit≤}
 use borrow.Author.Rules.{rules}
 use Rattle.whole.proofs.Limits.{passed_natural, passed_fits}
@@ -15,8 +17,8 @@ use_card_spec =
     (λ c κs. search rules)
     (λ c. search no_counts)
     (λ c. search (passed_natural 31, passed_fits 31 (lit≤ tt)))
-    (λ c. (inputs_natural c.before.counts_fit.ensures c.if-not-counts_fit.false, inputs_fit c.before.counts_fit.ensures c.if-not-counts_fit.false))
-    (λ c. (outputs_natural c.before.counts_fit.ensures c.if-not-counts_fit.false, outputs_fit c.before.counts_fit.ensures c.if-not-counts_fit.false))
+    (λ c. (inputs_natural c.before.counts_fit.ensures (ap not c.if-not-counts_fit.false), inputs_fit c.before.counts_fit.ensures (ap not c.if-not-counts_fit.false)))
+    (λ c. (outputs_natural c.before.counts_fit.ensures (ap not c.if-not-counts_fit.false), outputs_fit c.before.counts_fit.ensures (ap not c.if-not-counts_fit.false)))
     (λ c κs. search begun)
     (λ c. search rules)
     (λ c. search used_so))

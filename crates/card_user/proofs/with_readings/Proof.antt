@@ -1,5 +1,7 @@
 -- `with_readings` meets its contract. Assumes nothing.
 use borrow.Author.Rules.{rules}
+use mathlib.Core.Path.{ap}
+use mathlib.Core.Bool.{not}
 use Rattle.card_user.proofs.Kept.{no_room, fittable, misfit, summable, margins_put}
 use Rattle.card_user.proofs.with_readings.Statement.{statement}
 use Rattle.card_user.proofs.with_readings.Tie as tie
@@ -10,8 +12,8 @@ put-margins-requires c κs =
     let fit = c.before.before in
     let room = fit.before.before in
     let a = room.before.before.before.before in
-    summable a.args.static_margins.now a.args.slopes.now a.args.output_margins-1.now a.requires room.has_room.ensures fit.before.if-not-has_room.false
-    fit.card_fits.ensures c.before.if-not-card_fits.false
+    summable a.args.static_margins.now a.args.slopes.now a.args.output_margins.now a.requires room.has_room.ensures (ap not fit.before.if-not-has_room.false)
+    fit.card_fits.ensures (ap not c.before.if-not-card_fits.false)
 
 returns-3 : tie.Need-returns
 returns-3 c =
@@ -19,8 +21,8 @@ returns-3 c =
     let fit = put.before.before.before in
     let room = fit.before.before in
     let a = room.before.before.before.before in
-    margins_put a.args.static_margins.now a.args.slopes.now a.args.output_margins-1.now a.requires room.has_room.ensures fit.before.if-not-has_room.false
-    fit.card_fits.ensures put.before.before.if-not-card_fits.false put.put_margins.ensures
+    margins_put a.args.static_margins.now a.args.slopes.now a.args.output_margins.now a.requires room.has_room.ensures (ap not fit.before.if-not-has_room.false)
+    fit.card_fits.ensures (ap not put.before.before.if-not-card_fits.false) put.put_margins.ensures
 
 pub with_readings_spec : {M : Type 1} → statement M
 with_readings_spec =

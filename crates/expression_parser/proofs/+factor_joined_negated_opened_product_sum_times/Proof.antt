@@ -110,18 +110,18 @@ abbrev times_below : ℕ → In 2 times_kinds.ps
 times_below t = and 2 times_kinds.ps (falls 2 times_kinds.ps ◌<◌ μ_times t) times.Pre
 
 -- what was read when the loop began is read on, up to `left`
-abbrev product_Inv_loop : product_lts.invariant-loop
+abbrev product_Inv_loop : product_lts.invariant-loop-words
 product_Inv_loop text from room scale inputs count words₀ left₀ words left =
     ProductOn scale inputs room text from count words₀ left₀ words left
 
-abbrev product_μ_loop : product_lts.decreases-loop
+abbrev product_μ_loop : product_lts.decreases-loop-words
 product_μ_loop text from room scale inputs count words₀ left₀ words left = length text - left.at
 
-abbrev sum_Inv_loop : sum_lts.invariant-loop
+abbrev sum_Inv_loop : sum_lts.invariant-loop-code
 sum_Inv_loop text from room scale inputs count words₀ left₀ words left =
     SumOn scale inputs room text from count words₀ left₀ words left
 
-abbrev sum_μ_loop : sum_lts.decreases-loop
+abbrev sum_μ_loop : sum_lts.decreases-loop-code
 sum_μ_loop text from room scale inputs count words₀ left₀ words left = length text - left.at
 
 pub +factor_joined_negated_opened_product_sum_times_spec : {M : Type 1} → statement M
@@ -167,7 +167,7 @@ pub +factor_joined_negated_opened_product_sum_times_spec : {M : Type 1} → stat
     (λ c. search rules)
     (λ c. search rules)
     (λ c. search sum_joined_refused)
-    (λ c κs. sum_operable c.before.before.before.before.before.before.before.before.before.before.before.requires.1 c.before.before.before.before.before.before.product.ensures (search rules) (omega arith))
+    (λ c κs. sum_operable c.before.before.before.before.before.before.before.before.before.before.requires.1 c.before.before.before.before.before.before.product-next.ensures (search rules) (omega arith))
     (λ c. search rules)
     (λ c. search sum_joined_made))
     (λ t.
@@ -183,7 +183,7 @@ pub +factor_joined_negated_opened_product_sum_times_spec : {M : Type 1} → stat
     (λ c. search rules)
     (λ c. search rules)
     (λ c. search minus_refused)
-    (λ c κs. minus_operable c.before.before.before.before.before.before.before.before.before.before.before.requires.1 c.before.before.before.before.before.before.factor.ensures (search rules) (omega arith))
+    (λ c κs. minus_operable c.before.before.before.before.before.before.before.before.before.before.before.requires.1 c.before.before.before.before.before.before.factor-inner.ensures (search rules) (omega arith))
     (λ c. search rules)
     (λ c. search minus_made))
     (λ t.
@@ -214,17 +214,17 @@ pub +factor_joined_negated_opened_product_sum_times_spec : {M : Type 1} → stat
     (λ c κs. search rules)
     (λ c κs.
     let p = c.before.before.before.before.before.before.before.before.before.before.before.before.before.requires in
-    let x = c.before.before.before.before.before.before.before.before.before.factor.ensures in
-    let w = c.before.before.before.loop.invariant in
-    (omega (arith, p.0, product_onward x (search rules) w), left_readable x (search rules) w c.before.before.is_star.ensures p.1 c.before.if1.true))
+    let x = c.before.before.before.before.before.before.before.before.before.factor-first.ensures in
+    let w = c.before.before.before.loop-words.invariant in
+    (omega (arith, p.0, product_onward x (search rules) w), left_readable x (search rules) w c.before.before.is_star.ensures p.1 c.before.loop-words-test.true))
     (λ c. search rules)
     (λ c. search rules)
-    (λ c. joined_long c.before.before.before.before.before.before.before.before.before.before.before.before.before.before.factor.ensures (search rules) c.before.before.before.before.before.before.before.before.loop.invariant c.before.before.before.before.times.ensures)
+    (λ c. joined_long c.before.before.before.before.before.before.before.before.before.before.before.before.before.before.factor-first.ensures (search rules) c.before.before.before.before.before.before.before.before.loop-words.invariant c.before.before.before.before.times-next.ensures)
     (λ c. search product_stops)
     (λ c. search joined_falls)
     (λ c. search product_more)
-    (λ c. product_long c.before.before.before.before.before.before.before.before.factor.ensures (search rules) c.before.before.loop.invariant)
-    (λ c. product_ends c.before.before.before.before.before.before.before.before.factor.ensures (search rules) c.before.before.loop.invariant c.before.is_star.ensures c.if1.false))
+    (λ c. product_long c.before.before.before.before.before.before.before.before.factor-first.ensures (search rules) c.before.before.loop-words.invariant)
+    (λ c. product_ends c.before.before.before.before.before.before.before.before.factor-first.ensures (search rules) c.before.before.loop-words.invariant c.before.is_star.ensures c.loop-words-test.false))
     (λ t.
     sum_lts.spec
     (product_below t, product.Post, joining_reads.Asked, joining_reads.Learnt, joined_below t, joined.Post)
@@ -241,17 +241,17 @@ pub +factor_joined_negated_opened_product_sum_times_spec : {M : Type 1} → stat
     (λ c κs. search rules)
     (λ c κs.
     let p = c.before.before.before.before.before.before.before.before.before.before.before.before.before.requires in
-    let x = c.before.before.before.before.before.before.before.before.before.product.ensures in
-    let w = c.before.before.before.loop.invariant in
-    (omega (arith, p.0, sum_onward x (search rules) w), sum_left_readable x (search rules) w c.before.before.joining.ensures p.1 c.before.if1.false))
+    let x = c.before.before.before.before.before.before.before.before.before.product-first.ensures in
+    let w = c.before.before.before.loop-code.invariant in
+    (omega (arith, p.0, sum_onward x (search rules) w), sum_left_readable x (search rules) w c.before.before.joining-code.ensures p.1 c.before.if-code-eq0.false))
     (λ c. search rules)
     (λ c. search rules)
-    (λ c. sum_joined_long c.before.before.before.before.before.before.before.before.before.before.before.before.before.before.product.ensures (search rules) c.before.before.before.before.before.before.before.before.loop.invariant c.before.before.before.before.joined.ensures)
+    (λ c. sum_joined_long c.before.before.before.before.before.before.before.before.before.before.before.before.before.before.product-first.ensures (search rules) c.before.before.before.before.before.before.before.before.loop-code.invariant c.before.before.before.before.joined-next.ensures)
     (λ c. search sum_stops)
     (λ c. search joined_falls)
     (λ c. search sum_more)
-    (λ c. sum_long c.before.before.before.before.before.before.before.before.product.ensures (search rules) c.before.before.loop.invariant)
-    (λ c. sum_ends c.before.before.before.before.before.before.before.before.product.ensures (search rules) c.before.before.loop.invariant c.before.joining.ensures c.if1.true))
+    (λ c. sum_long c.before.before.before.before.before.before.before.before.product-first.ensures (search rules) c.before.before.loop-code.invariant)
+    (λ c. sum_ends c.before.before.before.before.before.before.before.before.product-first.ensures (search rules) c.before.before.loop-code.invariant c.before.joining-code.ensures c.if-code-eq0.true))
     (λ t.
     times_lts.spec
     (factor_below t, factor.Post, operate_reads.Asked, operate_reads.Learnt)
@@ -263,6 +263,6 @@ pub +factor_joined_negated_opened_product_sum_times_spec : {M : Type 1} → stat
     (λ c. search rules)
     (λ c. search rules)
     (λ c. search times_refused)
-    (λ c κs. times_operable c.before.before.before.before.before.before.before.before.before.before.before.requires.1 c.before.before.before.before.before.before.factor.ensures (search rules) (omega arith))
+    (λ c κs. times_operable c.before.before.before.before.before.before.before.before.before.before.before.requires.1 c.before.before.before.before.before.before.factor-next.ensures (search rules) (omega arith))
     (λ c. search rules)
     (λ c. search times_made))

@@ -8,16 +8,16 @@ use Rattle.hex_bytes.proofs.Hexes.{hex_ended, hex_odd, hex_bad, hex_one}
 use Rattle.hex_bytes.proofs.read.Statement.{statement}
 use Rattle.hex_bytes.proofs.read.Tie as tie
 
-abbrev invariant-loop : tie.invariant-loop
-invariant-loop s out₀ at₀ n₀ out at n = Gathering hex hex_front s at out₀ out n
+abbrev invariant-loop-at : tie.invariant-loop-at
+invariant-loop-at s out₀ at₀ n₀ out at n = Gathering hex hex_front s at out₀ out n
 
-abbrev decreases-loop : tie.decreases-loop
-decreases-loop s out₀ at₀ n₀ out at n = length s - at
+abbrev decreases-loop-at : tie.decreases-loop-at
+decreases-loop-at s out₀ at₀ n₀ out at n = length s - at
 
 pub read_spec : {M : Type 1} → statement M
 read_spec =
     tie.close
-    (tie.spec invariant-loop decreases-loop
+    (tie.spec invariant-loop-at decreases-loop-at
     (λ c. search gathered_none)
     (λ c. search rules) (λ c. search rules) (λ c. search hex_odd)
     (λ c. search rules) (λ c. search rules) (λ c. search rules) (λ c κs. search rules) (λ c. search rules)

@@ -7,16 +7,16 @@ use Rattle.parsing.proofs.Decimals.{too_short, too_long, too_low, too_high}
 use Rattle.numbers.proofs.read_digits.Statement.{statement}
 use Rattle.numbers.proofs.read_digits.Tie as tie
 
-abbrev invariant-loop : tie.invariant-loop
-invariant-loop s n₀ i₀ n i = Counted s n i
+abbrev invariant-loop-i : tie.invariant-loop-i
+invariant-loop-i s n₀ i₀ n i = Counted s n i
 
-abbrev decreases-loop : tie.decreases-loop
-decreases-loop s n₀ i₀ n i = length s - i
+abbrev decreases-loop-i : tie.decreases-loop-i
+decreases-loop-i s n₀ i₀ n i = length s - i
 
 pub read_digits_spec : {M : Type 1} → statement M
 read_digits_spec =
     tie.close
-    (tie.spec invariant-loop decreases-loop
+    (tie.spec invariant-loop-i decreases-loop-i
     (λ c. too_short _ (search rules))
     (λ c. too_long _ (search rules))
     (λ c. counted_none _ (search rules) (search rules))

@@ -9,7 +9,7 @@ replied_spec =
     tie.close
     (tie.spec
     (λ c. search rules)
-    (λ c. let l = done_few 16 c.before.before.before.args.r-1 c.before.before.before.requires c.before.r-1.given.1 in search rules)
+    (λ c. let l = done_few 16 c.before.before.args.r c.before.before.requires c.before.r-1.given.1 in search rules)
     (λ c. search rules)
     (λ c κs. search rules)
     (λ c κs. search rules)

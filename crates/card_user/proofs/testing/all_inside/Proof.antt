@@ -1,6 +1,8 @@
 -- `all_inside` meets its contract. The loop's invariant: the balls before i are inside. Assumes nothing.
 use Prim.Native.Nat.{◌-◌}
 use borrow.Author.Rules.{rules}
+use mathlib.Core.Path.{ap}
+use mathlib.Core.Bool.{not}
 use Rattle.formulas.specs.Readings.{ball_readings}
 use Rattle.card_user.proofs.Inside.{InsideBefore, none_looked_at, middles_there, strays_there, centres_there, margins_there}
 use Rattle.card_user.proofs.Inside.{numbers_small, sticks_out, one_inside, all_looked_at}
@@ -32,5 +34,5 @@ all_inside_spec =
     (λ c. search sticks_out)
     (λ c. search rules)
     (λ c. search rules)
-    (λ c. one_inside (search rules) (search rules) c.before.is_inside.ensures c.if-not-is_inside.false (search rules))
+    (λ c. one_inside (search rules) (search rules) c.before.is_inside.ensures (ap not c.if-not-is_inside.false) (search rules))
     (λ c. search all_looked_at))

@@ -9,5 +9,5 @@ put_fields_spec =
     tie.close
     (tie.spec (λ c κs. search rules) (λ c κs. search room_stray)
     (λ c κs. let f = c.before.before.before in
-    search (room_margin, f.put_field.ensures, f.before.before.before.before.put_marked_signed.ensures))
+    search (room_margin, f.put_field-strayed.ensures, f.before.before.before.before.put_marked_signed-valued.ensures))
     (λ c. search rules) (λ c. search wrote_shown))

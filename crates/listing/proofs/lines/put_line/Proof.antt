@@ -9,5 +9,5 @@ put_line_spec =
     tie.close
     (tie.spec (λ c κs. search rules) (λ c κs. search room_fields)
     (λ c κs. let f = c.before.before.before in
-    search (room_end, f.put_fields.ensures, f.before.before.before.before.put_marked.ensures))
+    search (room_end, f.put_fields-listed.ensures, f.before.before.before.before.put_marked-named.ensures))
     (λ c. search rules) (λ c. search wrote_line))

@@ -9,16 +9,16 @@ use Rattle.rows.proofs.Columns.{column_all, column_unended, column_bad, column_o
 use Rattle.rows.proofs.column.read.Statement.{statement}
 use Rattle.rows.proofs.column.read.Tie as tie
 
-abbrev invariant-loop : tie.invariant-loop
-invariant-loop s k j out₀ at₀ n₀ out at n = Gathering (column_of k j) (column_front k j) s at out₀ out n
+abbrev invariant-loop-at : tie.invariant-loop-at
+invariant-loop-at s k j out₀ at₀ n₀ out at n = Gathering (column_of k j) (column_front k j) s at out₀ out n
 
-abbrev decreases-loop : tie.decreases-loop
-decreases-loop s k j out₀ at₀ n₀ out at n = length s - at
+abbrev decreases-loop-at : tie.decreases-loop-at
+decreases-loop-at s k j out₀ at₀ n₀ out at n = length s - at
 
 pub read_spec : {M : Type 1} → statement M
 read_spec =
     tie.close
-    (tie.spec invariant-loop decreases-loop
+    (tie.spec invariant-loop-at decreases-loop-at
     (λ c. search gathered_none)
     (λ c. search rules) (λ c. search rules) (λ c. search rules) (λ c κs. search rules) (λ c. search rules)
     (λ c. search rules) (λ c. search column_unended)

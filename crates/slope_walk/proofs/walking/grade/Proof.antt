@@ -18,7 +18,7 @@ still_long : tie.Need-shape_of-slopes-else-step invariant-loop-k decreases-loop-
 still_long c =
     let step = c.before.before.before.step in
     let loop = c.before.before.before.before.before.before.before.before.before.before.before.loop-k in
-    step.auto.1.1.1.1.1.1.0 ∙ grading_long loop.invariant
+    step.auto.slopes ∙ grading_long loop.invariant
 
 pub grade_spec : {M : Type 1} → statement M
 grade_spec =
