@@ -167,7 +167,7 @@ pub +factor_joined_negated_opened_product_sum_times_spec : {M : Type 1} → stat
     (λ c. search rules)
     (λ c. search rules)
     (λ c. search sum_joined_refused)
-    (λ c κs. sum_operable c.before.before.before.before.before.before.before.before.before.before.requires.1 c.before.before.before.before.before.before.product-next.ensures (search rules) (omega arith))
+    (λ c κs. sum_operable c.before.before.before.before.before.before.before.before.before.requires.1 c.before.before.before.before.product-next.ensures (search rules) (omega arith))
     (λ c. search rules)
     (λ c. search sum_joined_made))
     (λ t.
@@ -183,7 +183,7 @@ pub +factor_joined_negated_opened_product_sum_times_spec : {M : Type 1} → stat
     (λ c. search rules)
     (λ c. search rules)
     (λ c. search minus_refused)
-    (λ c κs. minus_operable c.before.before.before.before.before.before.before.before.before.before.before.requires.1 c.before.before.before.before.before.before.factor-inner.ensures (search rules) (omega arith))
+    (λ c κs. minus_operable c.before.before.before.before.before.before.before.before.before.requires.1 c.before.before.before.before.factor-inner.ensures (search rules) (omega arith))
     (λ c. search rules)
     (λ c. search minus_made))
     (λ t.
@@ -213,13 +213,13 @@ pub +factor_joined_negated_opened_product_sum_times_spec : {M : Type 1} → stat
     (λ c. search product_begins)
     (λ c κs. search rules)
     (λ c κs.
-    let p = c.before.before.before.before.before.before.before.before.before.before.before.before.before.requires in
-    let x = c.before.before.before.before.before.before.before.before.before.factor-first.ensures in
+    let p = c.before.before.before.before.before.before.before.before.before.before.before.requires in
+    let x = c.before.before.before.before.before.before.before.factor-first.ensures in
     let w = c.before.before.before.loop-words.invariant in
     (omega (arith, p.0, product_onward x (search rules) w), left_readable x (search rules) w c.before.before.is_star.ensures p.1 c.before.loop-words-test.true))
     (λ c. search rules)
     (λ c. search rules)
-    (λ c. joined_long c.before.before.before.before.before.before.before.before.before.before.before.before.before.before.factor-first.ensures (search rules) c.before.before.before.before.before.before.before.before.loop-words.invariant c.before.before.before.before.times-next.ensures)
+    (λ c. joined_long c.before.before.before.before.before.before.before.before.before.before.before.factor-first.ensures (search rules) c.before.before.before.before.before.before.before.loop-words.invariant c.before.before.before.times-next.ensures)
     (λ c. search product_stops)
     (λ c. search joined_falls)
     (λ c. search product_more)

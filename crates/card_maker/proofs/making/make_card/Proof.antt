@@ -5,25 +5,25 @@ use Rattle.card_maker.proofs.making.make_card.Statement.{statement}
 use Rattle.card_maker.proofs.making.make_card.Tie as tie
 
 testable : tie.Need-test-requires
-testable c κs = make_testable _ c.before.before.before.check.ensures c.before.h.given.1
+testable c κs = make_testable _ c.before.before.before.check.ensures c.before.h-1.given.1
 
-startable : tie.Need-carry-out-requires
+startable : tie.Need-carry_out-requires
 startable c κs =
     let tested = c.before.before.before.before in
-    make_startable _ tested.before.before.before.before.check.ensures tested.before.before.h.given.1 tested.test.ensures c.before.before.enum_told.given.1
+    make_startable _ tested.before.before.before.before.check.ensures tested.before.before.h-1.given.1 tested.test.ensures c.before.before.enum_told-1.given.1
 
-unread : tie.Need-returns
-unread c = make_unread _ c.before.before.before.check.ensures c.before.r.given.1
+unread : tie.Need-returns-in-Refused
+unread c = make_unread _ c.before.before.before.check.ensures c.before.r-1.given.1
 
-refused : tie.Need-returns-2
+refused : tie.Need-returns-in-Refused-test
 refused c =
     let tested = c.before.before.before in
-    make_refused _ tested.before.before.before.before.check.ensures tested.before.before.h.given.1 tested.test.ensures c.before.q.given.1
+    make_refused _ tested.check.ensures tested.before.before.h-1.given.1 tested.test.ensures c.before.q-1.given.1
 
-made : tie.Need-returns-3
+made : tie.Need-returns-in-Passed
 made c =
     let tested = c.before.before.before.before.before.before.before.before.before in
-    make_kept _ tested.before.before.before.before.check.ensures tested.before.before.h.given.1 tested.test.ensures c.before.before.before.before.before.before.before.enum_told.given.1
+    make_kept _ tested.before.before.before.before.check.ensures tested.before.before.h-1.given.1 tested.test.ensures c.before.before.before.before.before.before.before.enum_told-1.given.1
     c.before.before.before.before.carry_out.ensures
 
 pub make_card_spec : {M : Type 1} → statement M

@@ -9,13 +9,13 @@ gradable : tie.Need-grade-requires
 gradable c κs =
     let laid = c.before.before.before.before.before in
     let ranged = laid.before.before.before.before.before.before.before.before in
-    slopes_gradable laid.lay_inputs.ensures ranged.range_in.ensures laid.before.before.before.end.given.1 ranged.before.before.before.before.before.before.requires
+    slopes_gradable laid.lay_inputs.ensures ranged.range_in.ensures laid.before.before.before.end-1.given.1 ranged.before.before.before.before.before.before.requires
 
-returns : tie.Need-returns-2
+returns : tie.Need-returns-in-Finished
 returns c =
     let laid = c.before.before.before.before.before.before.before.before in
     let ranged = laid.before.before.before.before.before.before.before.before in
-    slopes_graded c.before.before.grade.ensures laid.lay_inputs.ensures ranged.range_in.ensures laid.before.before.before.end.given.1 ranged.before.before.before.before.before.before.requires
+    slopes_graded c.before.before.grade.ensures laid.lay_inputs.ensures ranged.range_in.ensures laid.before.before.before.end-1.given.1 ranged.before.before.before.before.before.before.requires
 
 pub grade_in_spec : {M : Type 1} → statement M
 grade_in_spec =

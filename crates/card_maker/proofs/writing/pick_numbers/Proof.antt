@@ -6,18 +6,18 @@ use Rattle.card_maker.proofs.Picked.{output_inside, picking_inside, value_inside
 use Rattle.card_maker.proofs.writing.pick_numbers.Statement.{statement}
 use Rattle.card_maker.proofs.writing.pick_numbers.Tie as tie
 
-abbrev invariant-loop : tie.invariant-loop
-invariant-loop outputs n work out₀ j₀ out j = Picking outputs n work out₀ out j
+abbrev invariant-loop-j : tie.invariant-loop-j
+invariant-loop-j outputs n work out₀ j₀ out j = Picking outputs n work out₀ out j
 
-abbrev decreases-loop : tie.decreases-loop
-decreases-loop outputs n work out₀ j₀ out j = n - j
+abbrev decreases-loop-j : tie.decreases-loop-j
+decreases-loop-j outputs n work out₀ j₀ out j = n - j
 
 pub pick_numbers_spec : {M : Type 1} → statement M
 pick_numbers_spec =
     tie.close
     (tie.spec
-    invariant-loop
-    decreases-loop
+    invariant-loop-j
+    decreases-loop-j
     (λ c. search picking_none)
     (λ c. search rules)
     (λ c. search output_inside)

@@ -6,18 +6,18 @@ use Rattle.card_maker.proofs.Picked.{row_named, row_offset, place_offset, next_p
 use Rattle.card_maker.proofs.writing.pick_rows.Statement.{statement}
 use Rattle.card_maker.proofs.writing.pick_rows.Tie as tie
 
-abbrev invariant-loop : tie.invariant-loop
-invariant-loop outputs n m work out₀ all t₀ out t = RowsPicking outputs n m work out₀ out t
+abbrev invariant-loop-t : tie.invariant-loop-t
+invariant-loop-t outputs n m work out₀ all t₀ out t = RowsPicking outputs n m work out₀ out t
 
-abbrev decreases-loop : tie.decreases-loop
-decreases-loop outputs n m work out₀ all t₀ out t = n * m - t
+abbrev decreases-loop-t : tie.decreases-loop-t
+decreases-loop-t outputs n m work out₀ all t₀ out t = n * m - t
 
 pub pick_rows_spec : {M : Type 1} → statement M
 pick_rows_spec =
     tie.close
     (tie.spec
-    invariant-loop
-    decreases-loop
+    invariant-loop-t
+    decreases-loop-t
     (λ c. search rows_fit)
     (λ c. search rows_none)
     (λ c. search some_inputs)

@@ -9,24 +9,24 @@ walkable : tie.Need-walk-requires
 walkable c κs =
     let cut = c.before.before.before.before.before in
     let copied = cut.before.before.before.before.before.before.before in
-    part_walkable copied.copy_numbers.ensures cut.before.before.before.before.cut.ensures cut.cut2.ensures
+    part_walkable copied.copy_numbers.ensures cut.before.before.before.before.cut.ensures cut.cut-2.ensures
     copied.before.before.before.before.before.requires
 
-stopped : tie.Need-returns
+stopped : tie.Need-returns-in-Stopped
 stopped c =
     let walked = c.before.before.before.before.before.before.before.before in
     let cut = walked.before.before.before.before.before.before in
     let copied = cut.before.before.before.before.before.before.before in
-    part_stopped walked.walk.ensures c.before.q.given.1 copied.copy_numbers.ensures cut.before.before.before.before.cut.ensures
-    cut.cut2.ensures copied.before.before.before.before.before.requires
+    part_stopped walked.walk.ensures c.before.q-1.given.1 copied.copy_numbers.ensures cut.before.before.before.before.cut.ensures
+    cut.cut-2.ensures copied.before.before.before.before.before.requires
 
-finished : tie.Need-returns-2
+finished : tie.Need-returns-in-Finished
 finished c =
     let walked = c.before.before.before.before.before.before.before.before in
     let cut = walked.before.before.before.before.before.before in
     let copied = cut.before.before.before.before.before.before.before in
-    part_finished walked.walk.ensures c.before.c.given.1 copied.copy_numbers.ensures cut.before.before.before.before.cut.ensures
-    cut.cut2.ensures copied.before.before.before.before.before.requires
+    part_finished walked.walk.ensures c.before.c-1.given.1 copied.copy_numbers.ensures cut.before.before.before.before.cut.ensures
+    cut.cut-2.ensures copied.before.before.before.before.before.requires
 
 pub admit_part_spec : {M : Type 1} → statement M
 admit_part_spec =

@@ -1,0 +1,9 @@
+-- `put_refused` meets its contract. Assumes nothing.
+use Rattle.telling.proofs.Headline.{place_room, wrote_refused}
+use Rattle.telling.proofs.put_refused.Goals as goal
+
+pub put_place-requires : goal.put_place-requires
+put_place-requires c = search place_room
+
+pub returns : goal.returns
+returns c = search wrote_refused
