@@ -223,8 +223,8 @@ pub +factor_joined_negated_opened_product_sum_times_spec : {M : Type 1} → stat
     (λ c. search product_stops)
     (λ c. search joined_falls)
     (λ c. search product_more)
-    (λ c. product_long c.before.before.before.before.before.before.before.before.factor-first.ensures (search rules) c.before.before.loop-words.invariant)
-    (λ c. product_ends c.before.before.before.before.before.before.before.before.factor-first.ensures (search rules) c.before.before.loop-words.invariant c.before.is_star.ensures c.loop-words-test.false))
+    (λ c. product_long c.before.before.before.before.before.before.factor-first.ensures (search rules) c.before.before.loop-words.invariant)
+    (λ c. product_ends c.before.before.before.before.before.before.factor-first.ensures (search rules) c.before.before.loop-words.invariant c.before.is_star.ensures c.loop-words-test.false))
     (λ t.
     sum_lts.spec
     (product_below t, product.Post, joining_reads.Asked, joining_reads.Learnt, joined_below t, joined.Post)
@@ -240,13 +240,13 @@ pub +factor_joined_negated_opened_product_sum_times_spec : {M : Type 1} → stat
     (λ c. search sum_begins)
     (λ c κs. search rules)
     (λ c κs.
-    let p = c.before.before.before.before.before.before.before.before.before.before.before.before.before.requires in
-    let x = c.before.before.before.before.before.before.before.before.before.product-first.ensures in
+    let p = c.before.before.before.before.before.before.before.before.before.before.before.requires in
+    let x = c.before.before.before.before.before.before.before.product-first.ensures in
     let w = c.before.before.before.loop-code.invariant in
     (omega (arith, p.0, sum_onward x (search rules) w), sum_left_readable x (search rules) w c.before.before.joining-code.ensures p.1 c.before.if-code-eq0.false))
     (λ c. search rules)
     (λ c. search rules)
-    (λ c. sum_joined_long c.before.before.before.before.before.before.before.before.before.before.before.before.before.before.product-first.ensures (search rules) c.before.before.before.before.before.before.before.before.loop-code.invariant c.before.before.before.before.joined-next.ensures)
+    (λ c. sum_joined_long c.before.before.before.before.before.before.before.before.before.before.before.product-first.ensures (search rules) c.before.before.before.before.before.before.before.before.loop-code.invariant c.before.before.before.before.joined-next.ensures)
     (λ c. search sum_stops)
     (λ c. search joined_falls)
     (λ c. search sum_more)
