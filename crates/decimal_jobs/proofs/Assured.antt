@@ -33,7 +33,7 @@ record Printed (F d : ℤ) (b : Ball) (front : OutLists) (n : ℕ) : Type 0 wher
   front_is : front ≡ decimals_out (nat_abs F) (nat_abs d) b
   bytes_are : n ≡ length (text_of (nat_abs F) (nat_abs d) b)
 
-of_print : {lent front : OutLists} {F d : ℤ} {b : Ball} {n : ℕ} → Asked F d b → Prints lent (nat_abs F) (nat_abs d) b (reply.Done n) front → Printed F d b front n
+of_print : {lent : OutLists} {F d : ℤ} {b : Ball} {front : OutLists} {n : ℕ} → Asked F d b → Prints lent (nat_abs F) (nat_abs d) b (reply.Done n) front → Printed F d b front n
 of_print a (Prints.done e) = record { asked = a; front_is = refl; bytes_are = refl }
 
 of_shown : {lent front : OutLists} {F d : ℤ} {b : Ball} {n : ℕ} → Shows lent F d b (reply.Done n) front → Printed F d b front n
@@ -91,7 +91,7 @@ record Put (F : ℤ) (number margin : List ℕ) (front : InLists) (n : ℕ) : Ty
   legal : ball_reach (into (nat_abs F) y m) ≤ M
   front_is : front ≡ reading_in (into (nat_abs F) y m)
 
-of_put : {lent front : InLists} {b : Ball} {n : ℕ} → Puts lent b (reply.Done n) front → (n ≡ 1) × (front ≡ reading_in b)
+of_put : {lent : InLists} {b : Ball} {front : InLists} {n : ℕ} → Puts lent b (reply.Done n) front → (n ≡ 1) × (front ≡ reading_in b)
 of_put (Puts.done e) = (refl, refl)
 
 of_margin : {lent front : InLists} {F : ℤ} {number margin : List ℕ} {y : Decimal ℤ} {n : ℕ} → read number ≡ some y

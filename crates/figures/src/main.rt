@@ -1,65 +1,47 @@
-// Runs document 01's worked steps and request b's, and prints what each answers, a line each.
-use libc::STDOUT_FILENO;
+// Runs the documents' worked steps and prints what each answers, a line each.
+#![tactic(auto)]
+
 use refusals::{Refusal, number_of};
 use rules::{Ball, BallStep, Matryoshka, MatryoshkaStep, PlainStep};
+use std::io;
 
-fn say(text: &[u8]) {
-    io::write_all(STDOUT_FILENO, text);
+fn say_refused(rt: &impl Print, question: &str, why: Refusal) -> io::Result<()> {
+    let number = number_of(why);
+    println!(rt; "{question}refused {number}")
 }
 
-fn say_signed(x: i64) {
-    if x < 0 {
-        say(b"-");
-    }
-    io::print_decimal(STDOUT_FILENO, whole::magnitude(x));
-}
-
-fn say_count(n: u64) {
-    say(b" ");
-    io::print_decimal(STDOUT_FILENO, n);
-}
-
-fn say_refused(why: Refusal) {
-    say(b"refused");
-    say_count(number_of(why) as u64);
-}
-
-fn say_plain(question: &[u8], answer: PlainStep) {
-    say(question);
+fn say_plain(rt: &impl Print, question: &str, answer: PlainStep) -> io::Result<()> {
     match answer {
-        PlainStep::Value(x) => say_signed(x),
-        PlainStep::Refused(r) => say_refused(r),
+        PlainStep::Value(x) => println!(rt; "{question}{x}"),
+        PlainStep::Refused(why) => say_refused(rt, question, why),
     }
-    say(b"\n");
 }
 
-fn say_ball(question: &[u8], answer: BallStep) {
-    say(question);
+fn say_ball(rt: &impl Print, question: &str, answer: BallStep) -> io::Result<()> {
     match answer {
         BallStep::Value(b) => {
-            say_signed(b.centre);
-            say_count(b.margin);
+            let centre = b.centre;
+            let margin = b.margin;
+            println!(rt; "{question}{centre} {margin}")
         }
-        BallStep::Refused(r) => say_refused(r),
+        BallStep::Refused(why) => say_refused(rt, question, why),
     }
-    say(b"\n");
 }
 
-fn say_matryoshka(question: &[u8], answer: MatryoshkaStep) {
-    say(question);
+fn say_matryoshka(rt: &impl Print, question: &str, answer: MatryoshkaStep) -> io::Result<()> {
     match answer {
         MatryoshkaStep::Value(m) => {
-            say_signed(m.middle);
-            say_count(m.stray);
-            say_count(m.margin);
+            let middle = m.middle;
+            let stray = m.stray;
+            let margin = m.margin;
+            println!(rt; "{question}{middle} {stray} {margin}")
         }
-        MatryoshkaStep::Refused(r) => say_refused(r),
+        MatryoshkaStep::Refused(why) => say_refused(rt, question, why),
     }
-    say(b"\n");
 }
 
 // Two balls times one another at scale 4, where a unit is a sixteenth.
-fn small_products() {
+fn small_products(rt: &impl Print) -> io::Result<()> {
     let one = Ball {
         centre: 1,
         margin: 0,
@@ -73,41 +55,47 @@ fn small_products() {
         margin: 2,
     };
     say_ball(
-        b"F 4: (24,3) times (-10,2) is ",
+        rt,
+        "F 4: (24,3) times (-10,2) is ",
         balls::steps::multiply(4, x, y),
-    );
+    )?;
     say_ball(
-        b"F 4: (1,0) times (1,0) is ",
+        rt,
+        "F 4: (1,0) times (1,0) is ",
         balls::steps::multiply(4, one, one),
-    );
+    )?;
     let up = Ball {
         centre: 8,
         margin: 0,
     };
     say_ball(
-        b"F 4: (8,0) times (1,0) is ",
+        rt,
+        "F 4: (8,0) times (1,0) is ",
         balls::steps::multiply(4, up, one),
-    );
+    )?;
     let tie = Ball {
         centre: -8,
         margin: 0,
     };
     say_ball(
-        b"F 4: (-8,0) times (1,0) is ",
+        rt,
+        "F 4: (-8,0) times (1,0) is ",
         balls::steps::multiply(4, tie, one),
-    );
+    )?;
     let down = Ball {
         centre: -9,
         margin: 0,
     };
     say_ball(
-        b"F 4: (-9,0) times (1,0) is ",
+        rt,
+        "F 4: (-9,0) times (1,0) is ",
         balls::steps::multiply(4, down, one),
-    );
+    )?;
+    Ok(())
 }
 
 // At scale 0 nothing is rounded; the last sum is one unit past the limit.
-fn whole_units() {
+fn whole_units(rt: &impl Print) -> io::Result<()> {
     let x = Ball {
         centre: 3,
         margin: 1,
@@ -117,9 +105,10 @@ fn whole_units() {
         margin: 2,
     };
     say_ball(
-        b"F 0: (3,1) times (-5,2) is ",
+        rt,
+        "F 0: (3,1) times (-5,2) is ",
         balls::steps::multiply(0, x, y),
-    );
+    )?;
     let last = Ball {
         centre: 2147483646,
         margin: 1,
@@ -133,16 +122,19 @@ fn whole_units() {
         margin: 1,
     };
     say_ball(
-        b"F 0: (2147483646,1) plus (0,0) is ",
+        rt,
+        "F 0: (2147483646,1) plus (0,0) is ",
         balls::steps::add(last, none),
-    );
+    )?;
     say_ball(
-        b"F 0: (2147483646,1) plus (0,1) is ",
+        rt,
+        "F 0: (2147483646,1) plus (0,1) is ",
         balls::steps::add(last, doubt),
-    );
+    )?;
+    Ok(())
 }
 
-fn static_products() {
+fn static_products(rt: &impl Print) -> io::Result<()> {
     let x = Matryoshka {
         middle: 24,
         stray: 3,
@@ -154,18 +146,20 @@ fn static_products() {
         margin: 1,
     };
     say_matryoshka(
-        b"F 4: (24,3,1) times (-10,2,1) is ",
+        rt,
+        "F 4: (24,3,1) times (-10,2,1) is ",
         matryoshki::steps::multiply(4, x, y),
-    );
+    )?;
     let one = Matryoshka {
         middle: 1,
         stray: 0,
         margin: 0,
     };
     say_matryoshka(
-        b"F 4: (1,0,0) times (1,0,0) is ",
+        rt,
+        "F 4: (1,0,0) times (1,0,0) is ",
         matryoshki::steps::multiply(4, one, one),
-    );
+    )?;
     let unit = Matryoshka {
         middle: 16,
         stray: 0,
@@ -177,17 +171,20 @@ fn static_products() {
         margin: 0,
     };
     say_matryoshka(
-        b"F 4: (16,0,0) times (5,2,0) is ",
+        rt,
+        "F 4: (16,0,0) times (5,2,0) is ",
         matryoshki::steps::multiply(4, unit, z),
-    );
+    )?;
+    Ok(())
 }
 
 // At scale 4 a tenth is 1.6 units: 2 with a margin of 1. An exact 2 beside it forgets what that rounding lost.
-fn tenths() {
+fn tenths(rt: &impl Print) -> io::Result<()> {
     say_ball(
-        b"F 4: the coefficient (2,1) is ",
+        rt,
+        "F 4: the coefficient (2,1) is ",
         balls::steps::coefficient(2, 1),
-    );
+    )?;
     let tenth = Ball {
         centre: 2,
         margin: 1,
@@ -201,20 +198,24 @@ fn tenths() {
         margin: 0,
     };
     say_ball(
-        b"F 4: (2,1) times (80,0) is ",
+        rt,
+        "F 4: (2,1) times (80,0) is ",
         balls::steps::multiply(4, tenth, reading),
-    );
+    )?;
     say_ball(
-        b"F 4: (2,0) times (80,0) is ",
+        rt,
+        "F 4: (2,0) times (80,0) is ",
         balls::steps::multiply(4, exact, reading),
-    );
+    )?;
+    Ok(())
 }
 
-fn static_tenths() {
+fn static_tenths(rt: &impl Print) -> io::Result<()> {
     say_matryoshka(
-        b"F 4: the static coefficient (2,1) is ",
+        rt,
+        "F 4: the static coefficient (2,1) is ",
         matryoshki::steps::coefficient(2, 1),
-    );
+    )?;
     let tenth = Matryoshka {
         middle: 2,
         stray: 0,
@@ -231,26 +232,30 @@ fn static_tenths() {
         margin: 0,
     };
     say_matryoshka(
-        b"F 4: (2,0,1) times (80,16,0) is ",
+        rt,
+        "F 4: (2,0,1) times (80,16,0) is ",
         matryoshki::steps::multiply(4, tenth, reading),
-    );
+    )?;
     say_matryoshka(
-        b"F 4: (2,0,0) times (80,16,0) is ",
+        rt,
+        "F 4: (2,0,0) times (80,16,0) is ",
         matryoshki::steps::multiply(4, exact, reading),
-    );
+    )?;
+    Ok(())
 }
 
-fn bare_limits() {
-    say_plain(b"M plus -1 is ", plain::steps::add(2147483647, -1));
-    say_plain(b"M plus 1 is ", plain::steps::add(2147483647, 1));
-    say_plain(b"negating M is ", plain::steps::negate(2147483647));
+fn bare_limits(rt: &impl Print) -> io::Result<()> {
+    say_plain(rt, "M plus -1 is ", plain::steps::add(2147483647, -1))?;
+    say_plain(rt, "M plus 1 is ", plain::steps::add(2147483647, 1))?;
+    say_plain(rt, "negating M is ", plain::steps::negate(2147483647))?;
+    Ok(())
 }
 
-fn main() {
-    small_products();
-    whole_units();
-    static_products();
-    tenths();
-    static_tenths();
-    bare_limits();
+fn main(rt: HostRuntime) -> io::Result<()> {
+    small_products(&rt)?;
+    whole_units(&rt)?;
+    static_products(&rt)?;
+    tenths(&rt)?;
+    static_tenths(&rt)?;
+    bare_limits(&rt)
 }

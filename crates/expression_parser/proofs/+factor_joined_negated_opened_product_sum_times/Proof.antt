@@ -246,12 +246,12 @@ pub +factor_joined_negated_opened_product_sum_times_spec : {M : Type 1} → stat
     (omega (arith, p.0, sum_onward x (search rules) w), sum_left_readable x (search rules) w c.before.before.joining-code.ensures p.1 c.before.if-code-eq0.false))
     (λ c. search rules)
     (λ c. search rules)
-    (λ c. sum_joined_long c.before.before.before.before.before.before.before.before.before.before.before.product-first.ensures (search rules) c.before.before.before.before.before.before.before.before.loop-code.invariant c.before.before.before.before.joined-next.ensures)
+    (λ c. sum_joined_long c.before.before.before.before.before.before.before.before.before.before.before.product-first.ensures (search rules) c.before.before.before.before.before.before.before.loop-code.invariant c.before.before.before.joined-next.ensures)
     (λ c. search sum_stops)
     (λ c. search joined_falls)
     (λ c. search sum_more)
-    (λ c. sum_long c.before.before.before.before.before.before.before.before.product-first.ensures (search rules) c.before.before.loop-code.invariant)
-    (λ c. sum_ends c.before.before.before.before.before.before.before.before.product-first.ensures (search rules) c.before.before.loop-code.invariant c.before.joining-code.ensures c.if-code-eq0.true))
+    (λ c. sum_long c.before.before.before.before.before.before.product-first.ensures (search rules) c.before.before.loop-code.invariant)
+    (λ c. sum_ends c.before.before.before.before.before.before.product-first.ensures (search rules) c.before.before.loop-code.invariant c.before.joining-code.ensures c.if-code-eq0.true))
     (λ t.
     times_lts.spec
     (factor_below t, factor.Post, operate_reads.Asked, operate_reads.Learnt)
@@ -263,6 +263,6 @@ pub +factor_joined_negated_opened_product_sum_times_spec : {M : Type 1} → stat
     (λ c. search rules)
     (λ c. search rules)
     (λ c. search times_refused)
-    (λ c κs. times_operable c.before.before.before.before.before.before.before.before.before.before.before.requires.1 c.before.before.before.before.before.before.factor-next.ensures (search rules) (omega arith))
+    (λ c κs. times_operable c.before.before.before.before.before.before.before.before.before.requires.1 c.before.before.before.before.factor-next.ensures (search rules) (omega arith))
     (λ c. search rules)
     (λ c. search times_made))

@@ -5,18 +5,18 @@ use Rattle.text_packer.proofs.Numbers.{FitSoFar, fit_none, fit_one, fit_fails, f
 use Rattle.text_packer.proofs.all_fit.Statement.{statement}
 use Rattle.text_packer.proofs.all_fit.Tie as tie
 
-abbrev invariant-loop : tie.invariant-loop
-invariant-loop words count k₀ k = FitSoFar words count k
+abbrev invariant-loop-k : tie.invariant-loop-k
+invariant-loop-k words count k₀ k = FitSoFar words count k
 
-abbrev decreases-loop : tie.decreases-loop
-decreases-loop words count k₀ k = count - k
+abbrev decreases-loop-k : tie.decreases-loop-k
+decreases-loop-k words count k₀ k = count - k
 
 pub all_fit_spec : {M : Type 1} → statement M
 all_fit_spec =
     tie.close
     (tie.spec
-    invariant-loop
-    decreases-loop
+    invariant-loop-k
+    decreases-loop-k
     (λ c. search fit_none)
     (λ c. search rules)
     (λ c. search rules)

@@ -5,18 +5,18 @@ use Rattle.text_packer.proofs.Numbers.{Column, column_none, column_inside, numbe
 use Rattle.text_packer.proofs.column.Statement.{statement}
 use Rattle.text_packer.proofs.column.Tie as tie
 
-abbrev invariant-loop : tie.invariant-loop
-invariant-loop words count part out₀ k₀ out k = Column part count words out₀ out k
+abbrev invariant-loop-k : tie.invariant-loop-k
+invariant-loop-k words count part out₀ k₀ out k = Column part count words out₀ out k
 
-abbrev decreases-loop : tie.decreases-loop
-decreases-loop words count part out₀ k₀ out k = count - k
+abbrev decreases-loop-k : tie.decreases-loop-k
+decreases-loop-k words count part out₀ k₀ out k = count - k
 
 pub column_spec : {M : Type 1} → statement M
 column_spec =
     tie.close
     (tie.spec
-    invariant-loop
-    decreases-loop
+    invariant-loop-k
+    decreases-loop-k
     (λ c. search column_none)
     (λ c. search rules)
     (λ c. search rules)
