@@ -1,4 +1,6 @@
 // The admit job for a logger in C or Rust, under its C name.
+#![tactic(auto)]
+
 ghost use Rattle.rules.specs.Lists.{matryoshka_lists};
 ghost use Rattle.formulas.specs.Readings.{domain};
 ghost use Rattle.formulas.specs.Kinds.{matryoshka_kind};
@@ -8,8 +10,7 @@ ghost use Rattle.replies.specs.Doors.{Door};
 
 use replies::{MarginsReply, replied};
 
-#[unsafe(no_mangle)]
-pub extern "C" fn margins_admit(
+pub fn margins_admit(
     bytes: &[u8],
     middles: &[i64],
     strays: &[i64],

@@ -1,4 +1,6 @@
 // The admit job: once, on a whole domain, before the box ships. Nothing has to be checked first.
+#![tactic(auto)]
+
 ghost use Rattle.rules.specs.Lists.{matryoshka_lists};
 ghost use Rattle.formulas.specs.Readings.{domain};
 ghost use Rattle.formulas.specs.Kinds.{matryoshka_kind};

@@ -1,4 +1,6 @@
 // The admit job, told.
+#![tactic(auto)]
+
 ghost use Rattle.std.specs.Prelude.{◌≤◌, length};
 ghost use Rattle.formulas.specs.Readings.{domain};
 ghost use Rattle.formulas.specs.Kinds.{matryoshka_kind};

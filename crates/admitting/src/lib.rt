@@ -1,4 +1,6 @@
 // The admit job behind its tests: a formula carried out on a domain that fits, in memory that is enough.
+#![tactic(auto)]
+
 ghost use Rattle.rules.specs.Lists.{matryoshka_lists};
 ghost use Rattle.formulas.specs.Readings.{domain};
 ghost use Rattle.formulas.specs.Kinds.{matryoshka_kind};

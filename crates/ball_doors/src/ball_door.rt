@@ -8,8 +8,7 @@ ghost use Rattle.replies.specs.Doors.{Door};
 
 use replies::{MarginsReply, replied};
 
-#[unsafe(no_mangle)]
-pub extern "C" fn margins_ball(
+pub fn margins_ball(
     bytes: &[u8],
     centres: &[i64],
     margins: &[i64],

@@ -6,8 +6,7 @@ ghost use Rattle.replies.specs.Doors.{margins_formula};
 use checking::checking::check;
 use replies::{MarginsFormula, formula_told};
 
-#[unsafe(no_mangle)]
-pub extern "C" fn margins_check(bytes: &[u8]) -> MarginsFormula
+pub fn margins_check(bytes: &[u8]) -> MarginsFormula
     ensures { result ≡ margins_formula (checked bytes.now) }
 {
     formula_told(check(bytes))

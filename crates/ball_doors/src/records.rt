@@ -43,8 +43,7 @@ fn run(
 }
 
 // As `margins_ball` over the records' centres and their margins.
-#[unsafe(no_mangle)]
-pub extern "C" fn margins_ball_records(
+pub fn margins_ball_records(
     bytes: &[u8],
     readings: &[MarginsBall],
     work_centres: &mut [i64],

@@ -1,5 +1,7 @@
 // The ball job: each reading with its margin in, each figure with its margin out, or the numbered refusal. Nothing has
 // to be checked first.
+#![tactic(auto)]
+
 ghost use Rattle.rules.specs.Lists.{ball_lists};
 ghost use Rattle.formulas.specs.Readings.{ball_readings};
 ghost use Rattle.formulas.specs.Kinds.{ball_kind};

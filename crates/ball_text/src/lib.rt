@@ -1,4 +1,6 @@
 // The ball job, told.
+#![tactic(auto)]
+
 ghost use Rattle.std.specs.Prelude.{◌≤◌, length};
 ghost use Rattle.formulas.specs.Readings.{ball_readings};
 ghost use Rattle.formulas.specs.Kinds.{ball_kind};

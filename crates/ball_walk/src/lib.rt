@@ -1,4 +1,6 @@
 // The walk on balls: centres in one list, margins in the other.
+#![tactic(auto)]
+
 ghost use Rattle.rules.specs.Steps.{ball_answer};
 ghost use Rattle.rules.specs.Lists.{ball_lists};
 ghost use Rattle.formulas.specs.Kinds.{ball_kind};

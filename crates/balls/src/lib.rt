@@ -1,2 +1,4 @@
 // Balls: a step for each instruction.
+#![tactic(auto)]
+
 pub mod steps;

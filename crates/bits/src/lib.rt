@@ -1,4 +1,6 @@
 // A bit cursor over bytes. A field is gathered from its bytes at once, whatever bit it starts at.
+#![tactic(auto)]
+
 ghost use Rattle.std.specs.Prelude.{◌≡◌, ◌+◌, ◌-◌, ◌*◌, ◌^◌, ◌≤◌, ◌<◌, length, take, drop};
 ghost use Rattle.bits.specs.Bits.{bits, number, IsWindow};
 ghost use Rattle.bits.specs.Reader.{field};

@@ -1,4 +1,6 @@
 // The card of static margins, made and used, as a program in C or Rust links it.
+#![tactic(auto)]
+
 ghost use Rattle.formulas.specs.Readings.{ball_readings, domain};
 ghost use Rattle.card_user.specs.Uses.{brought};
 ghost use Rattle.card_maker.specs.Parts.{card_lists};
@@ -8,8 +10,7 @@ use card_maker::making::make_card;
 use card_user::use_card;
 use replies::{MarginsReply, replied};
 
-#[unsafe(no_mangle)]
-pub extern "C" fn margins_make_card(
+pub fn margins_make_card(
     bytes: &[u8],
     middles: &[i64],
     strays: &[i64],
@@ -26,8 +27,7 @@ pub extern "C" fn margins_make_card(
     replied(r)
 }
 
-#[unsafe(no_mangle)]
-pub extern "C" fn margins_use_card(
+pub fn margins_use_card(
     scale: i64,
     inputs: i64,
     outputs: i64,

@@ -1,4 +1,6 @@
 // The card of static margins, made: tested, worked out in lists of its own, and written last.
+#![tactic(auto)]
+
 pub mod admission;
 pub mod making;
 pub mod slopes;

@@ -1,4 +1,6 @@
 // A card put to use: the margins of a reading, with no walk through the formula.
+#![tactic(auto)]
+
 ghost use Rattle.formulas.specs.Readings.{ball_readings};
 ghost use Rattle.cards.specs.Lent.{UseKept};
 ghost use Rattle.card_user.specs.Uses.{brought, Counted, counted, Readable};

@@ -1,4 +1,6 @@
 // The ball job with its figures as doubles, for C.
+#![tactic(auto)]
+
 ghost use Rattle.rules.specs.Lists.{ball_lists};
 ghost use Rattle.formulas.specs.Readings.{ball_readings};
 ghost use Rattle.charts.specs.Charts.{chart_lists, chart_lent};
@@ -6,8 +8,7 @@ ghost use Rattle.chart_door.specs.ChartDoors.{ChartDoor};
 
 use replies::{MarginsReply, replied};
 
-#[unsafe(no_mangle)]
-pub extern "C" fn margins_ball_doubles(
+pub fn margins_ball_doubles(
     bytes: &[u8],
     centres: &[i64],
     margins: &[i64],

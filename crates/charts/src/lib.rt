@@ -1,4 +1,6 @@
 // The ball job with its figures as doubles, for a page that draws them. Nothing has to be checked first.
+#![tactic(auto)]
+
 ghost use Rattle.rules.specs.Lists.{ball_lists};
 ghost use Rattle.formulas.specs.Readings.{ball_readings};
 ghost use Rattle.charts.specs.Charts.{chart_lists, chart_lent, Drawable, Draws, Begins, Charted};

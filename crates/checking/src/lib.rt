@@ -1,4 +1,6 @@
 // Whether bytes are a formula: the header, all the instructions, all the outputs, the padding.
+#![tactic(auto)]
+
 use formulas::Header;
 use refusals::Refusal;
 

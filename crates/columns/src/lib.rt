@@ -1,4 +1,6 @@
 // The first records of a list, centre beside margin, as two lists.
+#![tactic(auto)]
+
 ghost use Rattle.std.specs.Prelude.{[], ◌<◌, take};
 ghost use Rattle.columns.specs.Records.{Added, Columned, AtMost17};
 

@@ -1,4 +1,6 @@
 // Reading lines of which two columns are read: a ball job, or an admit job with a third.
+#![tactic(auto)]
+
 ghost use Rattle.lists.specs.Written.{Wrote};
 ghost use Rattle.columns_text.specs.JobLines.{lines_text};
 ghost use Rattle.columns_text.specs.ColumnsRead.{SecondRead};

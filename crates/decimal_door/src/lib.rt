@@ -1,4 +1,6 @@
 // Decimals out and in, as a program in C or Rust links them.
+#![tactic(auto)]
+
 ghost use Rattle.rules.specs.Balls.{ball};
 ghost use Rattle.decimal_jobs.specs.Out.{out_lists};
 ghost use Rattle.decimal_jobs.specs.In.{in_lists};
@@ -8,8 +10,7 @@ use decimal_jobs::{from_decimal, to_decimal};
 use replies::{MarginsPacked, MarginsReply, packed_told, replied};
 use rules::Ball;
 
-#[unsafe(no_mangle)]
-pub extern "C" fn margins_to_decimal(
+pub fn margins_to_decimal(
     scale: i64,
     decimals: i64,
     centre: i64,
@@ -27,8 +28,7 @@ pub extern "C" fn margins_to_decimal(
     packed_told(r)
 }
 
-#[unsafe(no_mangle)]
-pub extern "C" fn margins_from_decimal(
+pub fn margins_from_decimal(
     scale: i64,
     number: &[u8],
     margin: &[u8],

@@ -1,4 +1,6 @@
 // Honest decimals: a ball out to a decimal centre and a decimal margin, and decimal texts in to a ball.
+#![tactic(auto)]
+
 ghost use Rattle.numerals.specs.Decimals.{decimal};
 ghost use Rattle.decimals.specs.Out.{Countable};
 ghost use Rattle.decimal_jobs.specs.Tests.{InReach, Legal, HavePlaces, HaveRoom};

@@ -1,5 +1,7 @@
 // Texts of counts of 10^-d, written into a list of bytes that the caller lends. Each function takes the list and the
 // place to write from, and answers the place after what it wrote.
+#![tactic(auto)]
+
 ghost use Rattle.std.specs.Prelude.{◌+◌, ◌≤◌, ◌<◌, length};
 ghost use Rattle.lists.specs.Written.{Wrote};
 ghost use Rattle.decimal_texts.specs.Texts.{last_digits, behind, unsigned_text, text, ball_text};

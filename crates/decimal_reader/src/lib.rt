@@ -1,4 +1,6 @@
 // Decimal numbers and margins as they are written, read to their ends.
+#![tactic(auto)]
+
 ghost use Rattle.std.specs.Prelude.{◌≡◌};
 ghost use Rattle.decimal_texts.specs.Texts.{minus_first};
 ghost use Rattle.decimal_reader.specs.Answers.{TellsMargin, TellsNumber};

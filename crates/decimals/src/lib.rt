@@ -1,4 +1,6 @@
 // Decimals that keep an honest margin: a ball in counts of 10^-d, and a decimal number with a decimal margin as a ball.
+#![tactic(auto)]
+
 ghost use Rattle.std.specs.Prelude.{◌≡◌, ◌+◌, ◌-◌, ◌*◌, ◌/◌, ◌^◌, ◌≤◌, ◌<◌, nat_abs};
 ghost use Rattle.rules.specs.Numbers.{ceiling};
 ghost use Rattle.numerals.specs.Decimals.{decimal};

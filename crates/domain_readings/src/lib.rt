@@ -1,4 +1,6 @@
 // The domain a caller brings to the admit job: tested as readings are, and copied, three lists at once.
+#![tactic(auto)]
+
 ghost use Rattle.rules.specs.Lists.{matryoshka_lists};
 ghost use Rattle.formulas.specs.Readings.{domain, domain_brought};
 ghost use Rattle.readings.specs.Judges.{JudgesAll};

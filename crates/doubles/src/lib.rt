@@ -1,4 +1,6 @@
 // A ball as a pair of doubles, each exactly so many units of 2^-F.
+#![tactic(auto)]
+
 ghost use Rattle.std.specs.Prelude.{◌≡◌, ◌≤◌, pos, nat_abs};
 ghost use Rattle.rules.specs.Numbers.{M, top_scale};
 ghost use Rattle.doubles.specs.Doubles.{double};

@@ -1,4 +1,6 @@
 // Why a domain was refused, for C.
+#![tactic(auto)]
+
 ghost use Rattle.std.specs.Prelude.{◌≡◌};
 ghost use Rattle.formulas.specs.Readings.{domain};
 ghost use Rattle.explaining.specs.Explaining.{explained_says};
@@ -55,8 +57,7 @@ fn told(r: Explained) -> MarginsExplanation
     }
 }
 
-#[unsafe(no_mangle)]
-pub extern "C" fn margins_explain(
+pub fn margins_explain(
     bytes: &[u8],
     middles: &[i64],
     strays: &[i64],

@@ -1,4 +1,6 @@
 // Why was this domain refused? The largest part of it that is admitted, found by halves. Nothing has to be checked first, and nothing is lent.
+#![tactic(auto)]
+
 ghost use Rattle.formulas.specs.Readings.{domain};
 ghost use Rattle.explaining.specs.Explaining.{Tells, Lookable, ExplainsDomain};
 

@@ -1,5 +1,7 @@
 // Formulas as people write them, read by sum, product and factor, which call each other: the text left and the nesting
 // room fall. Each number, minus and operator is kept as one instruction.
+#![tactic(auto)]
+
 ghost use Rattle.std.specs.Prelude.{◌≡◌, ◌-◌, ◌≤◌, eqb, length, get_or};
 ghost use Rattle.rules.specs.Numbers.{top_scale};
 ghost use Rattle.expressions.specs.Kind.{opens, minus};

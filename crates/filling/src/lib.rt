@@ -1,4 +1,6 @@
 // Lent lists filled from a checked formula: the numbers of its instructions, one list a part, and of its outputs.
+#![tactic(auto)]
+
 ghost use Rattle.std.specs.Prelude.{◌≡◌, length};
 ghost use Rattle.lists.specs.Over.{over};
 ghost use Rattle.formulas.specs.Formula.{Smaller, places};

@@ -1,4 +1,6 @@
 // The packer's tests, in the order in which the fields would be written, and how many bits they take.
+#![tactic(auto)]
+
 ghost use Rattle.std.specs.Prelude.{◌≡◌, false, ◌≤◌, length};
 ghost use Rattle.packing.specs.Raw.{raw, parts, handed, instructions_of};
 ghost use Rattle.packing.specs.Slots.{header_slots, instruction_slots, program_slots, result_slots};

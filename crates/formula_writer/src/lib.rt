@@ -1,4 +1,6 @@
 // A formula that passed its tests, written: fields put by a writer of bits, one after another.
+#![tactic(auto)]
+
 ghost use Rattle.std.specs.Prelude.{◌≡◌, pos, nat_abs};
 ghost use Rattle.rules.specs.Values.{Allowed};
 ghost use Rattle.packing.specs.Raw.{raw, parts, handed};

@@ -1,4 +1,5 @@
 // A formula without its bytes. What a run of it is, on lists, is in specs/; what that entails, in proofs/.
+#![tactic(auto)]
 
 // F, m, l and n.
 #[derive(Clone, Copy)]

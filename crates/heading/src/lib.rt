@@ -1,4 +1,6 @@
 // The header, whose 32 bits all are ahead of the first: version, scale, inputs, instructions, outputs.
+#![tactic(auto)]
+
 ghost use Rattle.std.specs.Prelude.{◌≡◌};
 ghost use Rattle.bits.specs.Bits.{bits};
 ghost use Rattle.bits.specs.Fields.{Ahead};

@@ -1,4 +1,6 @@
 // Bytes in lower-case hex.
+#![tactic(auto)]
+
 ghost use Rattle.std.specs.Prelude.{◌≡◌, ◌+◌, ◌≤◌, length};
 ghost use Rattle.parsing.specs.ParsingAnswers.{Gathers};
 ghost use Rattle.hex_bytes.specs.Hex.{hex_digit, hex_byte, hex, hex_front, digit_answer};

@@ -1,4 +1,6 @@
 // Lists that a caller lends, written from the front: a list copied, or the sizes of one.
+#![tactic(auto)]
+
 ghost use Rattle.std.specs.Prelude.{◌≡◌, map, ◌≤◌, nat_abs, length};
 ghost use Rattle.lists.specs.Over.{over, least};
 

@@ -1,5 +1,7 @@
 // The outputs of matryoshki: the values that the output fields name, each field read once for all lists that it is
 // picked into.
+#![tactic(auto)]
+
 ghost use Rattle.rules.specs.Lists.{matryoshka_lists};
 ghost use Rattle.formulas.specs.Kinds.{matryoshka_kind};
 ghost use Rattle.packed.specs.Meaning.{meant};

@@ -1,4 +1,6 @@
 // The walk on matryoshki: middles, strays and static margins in a list each.
+#![tactic(auto)]
+
 ghost use Rattle.rules.specs.Steps.{matryoshka_answer};
 ghost use Rattle.rules.specs.Lists.{matryoshka_lists};
 ghost use Rattle.formulas.specs.Kinds.{matryoshka_kind};

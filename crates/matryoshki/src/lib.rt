@@ -1,2 +1,4 @@
 // Matryoshki: a step for each instruction.
+#![tactic(auto)]
+
 pub mod steps;

@@ -1,4 +1,6 @@
 // An instruction where the bytes may end inside one; it makes value `below` of a formula of that scale.
+#![tactic(auto)]
+
 ghost use Rattle.std.specs.Prelude.{◌≡◌, ◌+◌, ◌/◌, ◌^◌, ◌≤◌, ltb, length};
 ghost use Rattle.packed.specs.ReaderAnswers.{Instructed, ReadFrom, ZeroCode, Named, CutShort};
 

@@ -1,4 +1,6 @@
 // Decimal numbers of 1 to 10 digits after an optional minus.
+#![tactic(auto)]
+
 ghost use Rattle.std.specs.Prelude.{◌≡◌};
 ghost use Rattle.parsing.specs.Number.{number_meant};
 ghost use Rattle.parsing.specs.ParsingAnswers.{ReadsDigits, number_answer};

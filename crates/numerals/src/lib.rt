@@ -1,4 +1,6 @@
 // Numbers as they are written: 1 to 9 digits in all, with an optional point between digits; and their units.
+#![tactic(auto)]
+
 ghost use Rattle.std.specs.Prelude.{◌≡◌, ◌+◌, ◌^◌, ◌≤◌, ◌<◌, length, drop};
 ghost use Rattle.rules.specs.Numbers.{top_scale};
 ghost use Rattle.numerals.specs.Digits.{TellsDigit, fraction_on, point_on, whole_on, reading};

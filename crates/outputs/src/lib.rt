@@ -1,4 +1,6 @@
 // The outputs: the values that the output fields name, each field read once for all lists that it is picked into.
+#![tactic(auto)]
+
 ghost use Rattle.std.specs.Prelude.{◌≡◌, pos, length};
 ghost use Rattle.lists.specs.Over.{over};
 ghost use Rattle.rules.specs.Lists.{ball_lists};

@@ -5,8 +5,7 @@ ghost use Rattle.pack_doors.specs.PackDoors.{PackDoor};
 use packer::pack;
 use replies::{MarginsPacked, packed_told};
 
-#[unsafe(no_mangle)]
-pub extern "C" fn margins_pack(
+pub fn margins_pack(
     scale: i64,
     inputs: i64,
     codes: &[i64],

@@ -5,8 +5,7 @@ ghost use Rattle.pack_doors.specs.PackDoors.{UnpackDoor};
 use replies::{MarginsFormula, formula_told};
 use unpacking::unpack;
 
-#[unsafe(no_mangle)]
-pub extern "C" fn margins_unpack(
+pub fn margins_unpack(
     bytes: &[u8],
     codes: &mut [i64],
     firsts: &mut [i64],

@@ -1,4 +1,6 @@
 // The packed formula: the fields of an instruction, and the instructions of a checked formula.
+#![tactic(auto)]
+
 use refusals::Refusal;
 
 pub mod coefficient;

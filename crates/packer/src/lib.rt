@@ -1,4 +1,6 @@
 // The packer: the tests, then room, then the bytes. Nothing is written before the tests have passed.
+#![tactic(auto)]
+
 ghost use Rattle.std.specs.Prelude.{◌≡◌, ◌^◌, ◌≤◌};
 ghost use Rattle.writing.specs.Bytes.{whole_bytes};
 ghost use Rattle.packing.specs.Raw.{parts, handed};

@@ -1,4 +1,6 @@
 // The padding: what is left behind the outputs.
+#![tactic(auto)]
+
 ghost use Rattle.std.specs.Prelude.{◌≡◌, ◌%◌, ◌^◌, ◌≤◌};
 ghost use Rattle.bits.specs.Fields.{before};
 ghost use Rattle.packed.specs.Format.{is_padding};

@@ -1,4 +1,6 @@
 // The text that the program reads, taken apart: lines, the job's word; what its parts are read as.
+#![tactic(auto)]
+
 pub mod finding;
 pub mod word;
 

@@ -1,2 +1,4 @@
 // Plain values: a step for each instruction.
+#![tactic(auto)]
+
 pub mod steps;

@@ -1,4 +1,6 @@
 // The plain job for a logger in C or Rust, under its C name.
+#![tactic(auto)]
+
 ghost use Rattle.formulas.specs.Kinds.{plain_kind};
 ghost use Rattle.formulas.specs.Job.{lent};
 ghost use Rattle.packed.specs.Meaning.{formula};
@@ -6,8 +8,7 @@ ghost use Rattle.replies.specs.Doors.{Door};
 
 use replies::{MarginsReply, replied};
 
-#[unsafe(no_mangle)]
-pub extern "C" fn margins_plain(
+pub fn margins_plain(
     bytes: &[u8],
     readings: &[i64],
     work: &mut [i64],

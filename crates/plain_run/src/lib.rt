@@ -1,4 +1,6 @@
 // The plain job: bare readings in, bare figures out, or the numbered refusal. Nothing has to be checked first.
+#![tactic(auto)]
+
 ghost use Rattle.formulas.specs.Kinds.{plain_kind};
 ghost use Rattle.formulas.specs.Job.{lent, Kept};
 ghost use Rattle.packed.specs.Meaning.{formula};

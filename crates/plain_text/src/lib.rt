@@ -1,4 +1,6 @@
 // The plain job, told.
+#![tactic(auto)]
+
 ghost use Rattle.std.specs.Prelude.{◌≤◌, length};
 ghost use Rattle.formulas.specs.Kinds.{plain_kind};
 ghost use Rattle.lists.specs.Written.{Wrote};

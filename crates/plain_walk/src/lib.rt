@@ -1,4 +1,6 @@
 // The walk on plain values.
+#![tactic(auto)]
+
 ghost use Rattle.rules.specs.Steps.{plain_answer};
 ghost use Rattle.formulas.specs.Kinds.{plain_kind};
 ghost use Rattle.walks.specs.Walks.{Named, Operand, Steppable, Stepped, Walkable, Walks};

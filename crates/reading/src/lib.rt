@@ -1,4 +1,6 @@
 // An instruction with the tests of its fields; it makes value `below` of a formula of that scale.
+#![tactic(auto)]
+
 ghost use Rattle.std.specs.Prelude.{◌+◌, ◌/◌, ◌^◌, ◌≤◌, length};
 ghost use Rattle.packed.specs.ReaderAnswers.{Instructed, InstructedFrom, ReadBelow, ReadFrom};
 ghost use Rattle.packed.specs.ReaderAnswers.{Zeroth, Operands, Beyond, Fifth, Sixth};

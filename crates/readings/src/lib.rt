@@ -1,5 +1,7 @@
 // The readings a caller brings: as many as were asked for, in each list that carries them, and each within its limits;
 // or which one is not, and why.
+#![tactic(auto)]
+
 ghost use Rattle.formulas.specs.Readings.{reading, ball_readings, plain_brought, balls_brought};
 ghost use Rattle.readings.specs.Judges.{Judges, JudgesAll};
 

@@ -1,5 +1,7 @@
 // What the steps share of a reciprocal: the floor of T/a + 1/2, what rounding to it can lose, and how far reciprocals
 // of numbers near each other are apart. Each division is by a number that is not 0.
+#![tactic(auto)]
+
 ghost use Rattle.std.specs.Prelude.{◌≡◌, cond, ◌+◌, ◌-◌, ◌*◌, ◌/◌, ◌^◌, ◌≤◌, ◌<◌, eqb, nat_abs};
 ghost use Rattle.rules.specs.Numbers.{M, ceiling};
 ghost use Rattle.rules.specs.Reciprocals.{T, top_reciprocal_scale, Inverse, inexact};

@@ -1,5 +1,7 @@
 // Why a caller gets no answer, and how a test or a job ended. A later refusal is one line in each of `Refusal`,
 // `number_of` and specs/Refusals.
+#![tactic(auto)]
+
 ghost use Rattle.std.specs.Prelude.{◌≡◌};
 ghost use Rattle.refusals.specs.Refusals.{refusal_number};
 

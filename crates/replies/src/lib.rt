@@ -1,4 +1,6 @@
 // From an answer in Rattle to what C sees of it: a struct of numbers, since C has no enum with values.
+#![tactic(auto)]
+
 ghost use Rattle.std.specs.Prelude.{◌≡◌, ◌≤◌};
 ghost use Rattle.refusals.specs.Answer.{value};
 ghost use Rattle.refusals.specs.Said.{reply_said};

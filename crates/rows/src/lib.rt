@@ -1,3 +1,5 @@
 // Reading lines: decimal numbers with one space between, a line each.
+#![tactic(auto)]
+
 pub mod column;
 pub mod row;

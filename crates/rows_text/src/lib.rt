@@ -1,4 +1,6 @@
 // The three jobs on reading lines, column by column: a job takes as many columns as there are numbers on its lines.
+#![tactic(auto)]
+
 ghost use Rattle.lists.specs.Written.{Wrote};
 ghost use Rattle.columns_text.specs.JobLines.{lines_text};
 ghost use Rattle.columns_text.specs.ColumnsRead.{Lined, FirstRead};

@@ -1,5 +1,7 @@
 // The values that the rules speak of, and a step's answer in each of the three kinds. The rules themselves are in
 // specs/.
+#![tactic(auto)]
+
 use refusals::Refusal;
 
 // A centre and a margin, in units of 2^-F.

@@ -1,4 +1,6 @@
 // What the three runs share: the tests between a formula that was read and its first step. The laws are in proofs/.
+#![tactic(auto)]
+
 ghost use Rattle.std.specs.Prelude.{◌≡◌};
 ghost use Rattle.formulas.specs.Job.{roomy};
 ghost use Rattle.running.specs.Ready.{Tests};

@@ -1,4 +1,6 @@
 // How a job ended, told: the first line that the program prints, and how many lines follow.
+#![tactic(auto)]
+
 ghost use Rattle.std.specs.Prelude.{◌≡◌, ◌++◌, ◌+◌, ◌≤◌, length};
 ghost use Rattle.refusals.specs.Refusals.{refusal_number};
 ghost use Rattle.printing.specs.Decimal.{decimal};

@@ -1,5 +1,7 @@
 // A text packed: the scale and the number of inputs are tested, the text is read, then its instructions' constants and
 // their number, and the packer writes them.
+#![tactic(auto)]
+
 ghost use Rattle.std.specs.Prelude.{◌≡◌, ◌≤◌, length, take};
 ghost use Rattle.text_packer.specs.WordNumbers.{first_in, second_in, NumberIn, Lists, word_fits, all_fit};
 ghost use Rattle.text_packer.specs.WordLists.{Fronted, PacksFront, Listable, Columned, words_parts, Packable};

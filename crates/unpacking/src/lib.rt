@@ -1,4 +1,6 @@
 // Reading back: from packed bytes to the numbers that would be handed over for them, in lent lists.
+#![tactic(auto)]
+
 ghost use Rattle.std.specs.Prelude.{◌≡◌};
 ghost use Rattle.packing.specs.Raw.{parts};
 ghost use Rattle.packing.specs.PackAnswers.{Unpacks};

@@ -1,4 +1,6 @@
 // What the walks over a checked formula's instructions share: how one ends.
+#![tactic(auto)]
+
 use bits::Cursor;
 use refusals::Refusal;
 

@@ -1,4 +1,6 @@
 // Signed numbers: the size of one, whether one is below a limit, and (in proofs/) the laws of ℤ that every other crate cites.
+#![tactic(auto)]
+
 ghost use Rattle.std.specs.Prelude.{◌≡◌, nat_abs};
 ghost use Rattle.whole.specs.Limits.{is_below};
 

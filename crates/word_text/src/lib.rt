@@ -1,4 +1,6 @@
 // The formula's line and the job's word, read.
+#![tactic(auto)]
+
 ghost use Rattle.lists.specs.Written.{Wrote};
 ghost use Rattle.word_text.specs.Worded.{by_parts, Short, Numbered};
 

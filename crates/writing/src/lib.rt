@@ -1,4 +1,6 @@
 // A writer of bits by value. It gathers them in a word and stores bytes as they fill, four at a time.
+#![tactic(auto)]
+
 ghost use Rattle.lists.specs.Written.{Wrote};
 ghost use Rattle.writing.specs.Pending.{MayPut, Puts, MayFinish, last_bytes};
 

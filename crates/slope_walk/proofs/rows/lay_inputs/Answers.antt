@@ -14,7 +14,7 @@ loop-j-preserved c =
     let w = c.loop-j.invariant in
     let more = c.loop-j-test.true in
     elim c.if-j-inputs.branch [
-      then-j-inputs b ↦ rw b.t-is (starting_own w more b.if-j-inputs.true)
+      | then-j-inputs b ↦ rw b.t-is (starting_own w more b.if-j-inputs.true)
       | else-j-inputs b ↦ rw b.t-is (starting_other w more b.if-j-inputs.false)
     ]
 
