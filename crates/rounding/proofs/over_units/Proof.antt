@@ -1,11 +1,10 @@
 -- `over_units` meets its contract: the bits below one unit are the remainder. Assumes nothing.
-use mathlib.Core.Path.{◌≡◌, ◌∙◌, ap}
-use Prim.Native.Nat.{ℕ, ◌-◌, ◌%◌}
+use mathlib.Core.Path.{◌∙◌, ap}
+use Prim.Native.Nat.{ℕ, ◌-◌}
 use native.Mathlib.Nat.{mod-lt}
 use native.Mathlib.Omega.{arith}
 use lib.Bits.{bit_and, and_mask}
 use lib.Pow.{pow_pos}
-use Rattle.rules.specs.Numbers.{Q}
 use Rattle.rounding.proofs.Units.{unit_part, unit_bound}
 use Rattle.rounding.proofs.over_units.Statement.{statement}
 use Rattle.rounding.proofs.over_units.Tie as tie

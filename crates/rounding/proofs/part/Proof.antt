@@ -1,6 +1,6 @@
 -- `part` meets its contract: nothing of 2^scale is shifted out. Assumes nothing.
 use mathlib.Core.Path.{◌≡◌}
-use Prim.Native.Nat.{◌-◌, ◌*◌, ◌%◌, ◌^◌}
+use Prim.Native.Nat.{◌*◌, ◌%◌, ◌^◌}
 use native.Mathlib.Omega.{arith}
 use borrow.Author.Rules.{rules}
 use Rattle.whole.proofs.Machine.{one_shifted}

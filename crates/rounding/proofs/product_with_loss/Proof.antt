@@ -3,7 +3,7 @@ use mathlib.Core.Path.{◌≡◌, ◌∙◌, ap}
 use native.Mathlib.Nat.{le_trans, le_of_eq}
 use borrow.Author.Rules.{rules}
 use lib.IntN.{ℤ, pos, nat_abs, ◌-ℤ◌, ◌*ℤ◌}
-use Rattle.rules.specs.Numbers.{M, Q, Round}
+use Rattle.rules.specs.Numbers.{Q, Round}
 use Rattle.rules.proofs.Rounding.{round_loss}
 use Rattle.whole.proofs.Ring.{◌⊗◌, x₀, x₁}
 use Rattle.whole.proofs.Machine.{back, fits}
