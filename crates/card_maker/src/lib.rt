@@ -3,6 +3,6 @@
 
 pub mod admission;
 pub mod making;
+pub mod picking;
 pub mod slopes;
 pub mod testing;
-pub mod writing;

@@ -5,9 +5,9 @@ ghost use Rattle.cards.specs.Lent.{CardKept};
 ghost use Rattle.card_maker.specs.Parts.{Startable, StartableIn, Makes, card_lists};
 
 use crate::admission::admit;
+use crate::picking::write;
 use crate::slopes::grade_all;
 use crate::testing::test;
-use crate::writing::write;
 use checking::Checked;
 use checking::checking::check;
 use formulas::Header;

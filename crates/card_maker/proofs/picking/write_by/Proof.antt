@@ -1,8 +1,8 @@
 -- `write_by` meets its contract. Assumes nothing.
 use borrow.Author.Rules.{rules}
 use Rattle.card_maker.proofs.Filed.{outputs_pickable, static_pickable, slopes_pickable, card_written}
-use Rattle.card_maker.proofs.writing.write_by.Statement.{statement}
-use Rattle.card_maker.proofs.writing.write_by.Tie as tie
+use Rattle.card_maker.proofs.picking.write_by.Statement.{statement}
+use Rattle.card_maker.proofs.picking.write_by.Tie as tie
 
 pub write_by_spec : {M : Type 1} → statement M
 write_by_spec =

@@ -3,8 +3,8 @@ use Prim.Native.Nat.{◌-◌}
 use borrow.Author.Rules.{rules}
 use Rattle.card_maker.proofs.Picked.{Picking, picking_none, picking_long, picking_all, picking_more}
 use Rattle.card_maker.proofs.Picked.{output_inside, picking_inside, value_inside, value_offset}
-use Rattle.card_maker.proofs.writing.pick_numbers.Statement.{statement}
-use Rattle.card_maker.proofs.writing.pick_numbers.Tie as tie
+use Rattle.card_maker.proofs.picking.pick_numbers.Statement.{statement}
+use Rattle.card_maker.proofs.picking.pick_numbers.Tie as tie
 
 abbrev invariant-loop-j : tie.invariant-loop-j
 invariant-loop-j outputs n work out₀ j₀ out j = Picking outputs n work out₀ out j

@@ -3,8 +3,8 @@ use Prim.Native.Nat.{◌-◌, ◌*◌}
 use borrow.Author.Rules.{rules}
 use Rattle.card_maker.proofs.Picked.{RowsPicking, rows_fit, rows_none, rows_as_long, rows_all, rows_more, some_inputs}
 use Rattle.card_maker.proofs.Picked.{row_named, row_offset, place_offset, next_place, rows_inside, start_fits, slope_fits, slope_offset, slope_inside}
-use Rattle.card_maker.proofs.writing.pick_rows.Statement.{statement}
-use Rattle.card_maker.proofs.writing.pick_rows.Tie as tie
+use Rattle.card_maker.proofs.picking.pick_rows.Statement.{statement}
+use Rattle.card_maker.proofs.picking.pick_rows.Tie as tie
 
 abbrev invariant-loop-t : tie.invariant-loop-t
 invariant-loop-t outputs n m work out₀ all t₀ out t = RowsPicking outputs n m work out₀ out t
