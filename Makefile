@@ -4,7 +4,7 @@ PREFIX ?= /usr/local
 
 # Document 01's example, run the three ways by the program `margins`, and its worked steps. Leaves the program at target/margins.
 run:
-	@tools/kit > /dev/null && rt check margins figures > /dev/null && tools/program && tests/example && cat target/log/figures.stdout
+	@tools/program && tests/example && tools/run figures
 	@echo "the program is target/margins"
 
 # The gate.

@@ -9,7 +9,7 @@ ROOT = Path(__file__).resolve().parent.parent
 def listed():
     """Each crate of crates.txt with those of ours that it uses."""
     lines = [line for line in (ROOT / "crates.txt").read_text().splitlines() if line and not line.startswith("#")]
-    uses = {name.strip(): rest.split() for name, rest in (line.split(":") for line in lines)}
+    uses = {name.split()[0]: rest.split() for name, rest in (line.split(":") for line in lines)}
     return {name: [other for other in others if other in uses] for name, others in uses.items()}
 
 

@@ -37,7 +37,7 @@ def in_pieces(process, data):
 
 
 def printed(command, data, way):
-    """What the program prints, or none where it is killed by a signal (seen directly or through an emulator) or does not end."""
+    """What the program prints, or none where it is killed by a signal (seen directly or through a shell) or does not end."""
     with subprocess.Popen(command, stdin=subprocess.PIPE, stdout=subprocess.PIPE, bufsize=0) as process:
         try:
             said = way(process, data)
