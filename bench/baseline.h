@@ -1,5 +1,5 @@
-/* The four jobs, the ball job with doubles, packing from lists and from a text, reading back, decimal numbers out and in, why a domain is
- * refused, and the card of static margins, by hand in C, with the signatures of margins.h: what the proved library is measured against. */
+/* The four jobs, the ball job with doubles, packing from lists and from a text, reading back, decimal numbers out and in, and why a domain is
+ * refused, by hand in C, with the signatures of margins.h: what the proved library is measured against. */
 #ifndef BASELINE_H
 #define BASELINE_H
 
@@ -17,8 +17,6 @@ __typeof__(margins_unpack) baseline_unpack;
 __typeof__(margins_to_decimal) baseline_to_decimal;
 __typeof__(margins_from_decimal) baseline_from_decimal;
 __typeof__(margins_explain) baseline_explain;
-__typeof__(margins_make_card) baseline_make_card;
-__typeof__(margins_use_card) baseline_use_card;
 
 /* The same by trying each t from 256 down. */
 __typeof__(margins_explain) baseline_explain_from_above;

@@ -10,6 +10,4 @@
 #define margins_to_decimal baseline_to_decimal
 #define margins_from_decimal baseline_from_decimal
 #define margins_explain baseline_explain
-#define margins_make_card baseline_make_card
-#define margins_use_card baseline_use_card
 #define WITHOUT_RECORDS

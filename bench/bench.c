@@ -10,15 +10,14 @@
 #include <string.h>
 #include <time.h>
 
-enum { CHECK, PLAIN, BALL, ADMIT, PACK, UNPACK, DOUBLES, TEXT, EXPLAIN, CARD, USE, FORMULA_JOBS };
-enum { TO_DECIMAL = FORMULA_JOBS, FROM_DECIMAL, JOBS };
+enum { CHECK, PLAIN, BALL, ADMIT, PACK, UNPACK, DOUBLES, TEXT, EXPLAIN, FORMULA_JOBS, TO_DECIMAL = FORMULA_JOBS, FROM_DECIMAL, JOBS };
 enum { BASELINE, LIBRARY, SIDES };
 enum { ROUNDS = 501, BATCH_NANOSECONDS = 20000, TRIED_RUNS = 100 };
 enum { VALUES = MARGINS_MOST_VALUES, OUTPUTS = MARGINS_MOST_OUTPUTS, STEPS = MARGINS_MOST_INSTRUCTIONS, BYTES = MARGINS_MOST_BYTES };
-enum { FORMULAS = 5, SLOPES = MARGINS_MOST_SLOPES, DECIMAL_BYTES = MARGINS_MOST_DECIMAL_BYTES };
+enum { FORMULAS = 5, DECIMAL_BYTES = MARGINS_MOST_DECIMAL_BYTES };
 
 static const char *const job_names[JOBS] = {"check", "plain", "ball", "admit", "pack", "unpack", "doubles", "text", "explain",
-                                            "card", "use", "dec.out", "dec.in"};
+                                            "dec.out", "dec.in"};
 static const uint32_t growing[] = {16, 64, 256, 512};
 
 /* What a run leaves, cleared before two runs are compared. */
@@ -33,12 +32,9 @@ static struct {
     uint64_t decimal_margins[BALLS];
     uint8_t decimal_texts[BALLS][DECIMAL_BYTES];
     margins_explanation explanation;
-    uint64_t static_margins[OUTPUTS], slopes[SLOPES], card_margins[OUTPUTS];
 } left;
 
 typedef uint32_t run(const workload *w);
-
-static const int64_t no_margins[MARGINS_MOST_INPUTS];
 
 /* One function for each job of each side. */
 #define RUNS(side)                                                                                                                       \
@@ -85,16 +81,6 @@ static const int64_t no_margins[MARGINS_MOST_INPUTS];
         left.explanation = side##_explain(w->bytes, w->length, w->middles, w->inputs, w->wide_strays, w->inputs, w->margins, w->inputs); \
         return left.explanation.refusal;                                                                                                 \
     }                                                                                                                                    \
-    static uint32_t side##_card_run(const workload *w)                                                                                   \
-    {                                                                                                                                    \
-        return side##_make_card(w->bytes, w->length, w->middles, w->inputs, w->card_strays, w->inputs, no_margins, w->inputs,            \
-                                left.static_margins, OUTPUTS, left.slopes, SLOPES).refusal;                                              \
-    }                                                                                                                                    \
-    static uint32_t side##_use_run(const workload *w)                                                                                    \
-    {                                                                                                                                    \
-        return side##_use_card(w->scale, w->inputs, 1, w->middles, w->inputs, w->card_strays, w->inputs, w->static_margins, OUTPUTS,     \
-                               w->slopes, SLOPES, w->middles, w->inputs, w->margins, w->inputs, left.card_margins, OUTPUTS).refusal;     \
-    }                                                                                                                                    \
     static uint32_t side##_to_decimal_run(const workload *w)                                                                             \
     {                                                                                                                                    \
         uint32_t refusals = 0;                                                                                                           \
@@ -117,11 +103,9 @@ RUNS(margins)
 
 static run *const runs[SIDES][JOBS] = {
     {baseline_check_run, baseline_plain_run, baseline_ball_run, baseline_admit_run, baseline_pack_run, baseline_unpack_run,
-     baseline_doubles_run, baseline_text_run, baseline_explain_run, baseline_card_run, baseline_use_run, baseline_to_decimal_run,
-     baseline_from_decimal_run},
+     baseline_doubles_run, baseline_text_run, baseline_explain_run, baseline_to_decimal_run, baseline_from_decimal_run},
     {margins_check_run, margins_plain_run, margins_ball_run, margins_admit_run, margins_pack_run, margins_unpack_run,
-     margins_doubles_run, margins_text_run, margins_explain_run, margins_card_run, margins_use_run, margins_to_decimal_run,
-     margins_from_decimal_run},
+     margins_doubles_run, margins_text_run, margins_explain_run, margins_to_decimal_run, margins_from_decimal_run},
 };
 
 typedef struct {
@@ -143,14 +127,6 @@ static bool has(const workload *w, int job)
 static uint32_t packed_instructions(void)
 {
     return (left.bytes[2] & 127u) << 3 | left.bytes[3] >> 5;
-}
-
-/* The card that is used is the baseline's. */
-static void with_card(workload *w)
-{
-    if (baseline_make_card(w->bytes, w->length, w->middles, w->inputs, w->card_strays, w->inputs, no_margins, w->inputs, w->static_margins,
-                           OUTPUTS, w->slopes, SLOPES).refusal)
-        fail("the baseline refuses", w, CARD);
 }
 
 /* Both sides accept and leave the same. */
@@ -247,22 +223,15 @@ static void print_ratios(const workload *w, const medians *found, int first, int
             printf("%8s", "-");
 }
 
-/* Then what a card saves: its use beside the ball run that it stands for. */
 static void ratios(const workload *w)
 {
-    double used[FORMULAS], run[FORMULAS];
     heading("library over baseline", 0, FORMULA_JOBS);
     printf("%24s\n", "library's ball/plain");
     for (int i = 0; i < FORMULAS; i++) {
         medians found = measure(&w[i]);
         print_ratios(&w[i], &found, 0, FORMULA_JOBS);
         printf("%24.2f\n", found.nanoseconds[LIBRARY][BALL] / found.nanoseconds[LIBRARY][PLAIN]);
-        used[i] = found.nanoseconds[LIBRARY][USE];
-        run[i] = found.nanoseconds[LIBRARY][BALL];
     }
-    for (int i = 0; i < FORMULAS; i++)
-        printf("use, %s: a card is used in %.0f ns, a ball run takes %.0f, library's use/ball %.4f\n", w[i].name, used[i], run[i],
-               used[i] / run[i]);
 }
 
 /* How many admissions the baseline's way takes, and how many it would by trying each t from the whole domain down. */
@@ -300,7 +269,6 @@ static void growth(void)
     printf("  (library, then baseline)\n");
     for (size_t i = 0; i < sizeof growing / sizeof *growing; i++) {
         workload w = mix(growing[i]);
-        with_card(&w);
         medians found = measure(&w);
         for (int side = SIDES; side-- > 0;) {
             printf("%-24s", side == LIBRARY ? w.name : "");
@@ -313,10 +281,8 @@ static void growth(void)
 
 int main(int arguments, char **argument)
 {
-    workload w[] = {dot_product(), polynomial(), mix(512), coefficients(), reciprocals(), decimals(0), decimals(1), decimals(2)};
+    const workload w[] = {dot_product(), polynomial(), mix(512), coefficients(), reciprocals(), decimals(0), decimals(1), decimals(2)};
     const int all = FORMULAS + DECIMAL_KINDS;
-    for (int i = 0; i < FORMULAS; i++)
-        with_card(&w[i]);
     if (arguments == 1) {
         ratios(w);
         admissions(w);

@@ -4,10 +4,10 @@ import re
 import subprocess
 import sys
 
-JOBS = ("check", "plain", "ball", "admit", "pack", "unpack", "doubles", "text", "explain", "card", "use", "dec.out", "dec.in")
+JOBS = ("check", "plain", "ball", "admit", "pack", "unpack", "doubles", "text", "explain", "dec.out", "dec.in")
 FORMULAS = ("dot product of 8", "polynomial of degree 15", "mix of 512", "coefficients, degree 21", "reciprocals, 8 quotients")
 WORKLOADS = (*FORMULAS, "hours, 1 decimal", "hours, 4 decimals", "most digits")
-OF_FORMULAS = JOBS[:11]
+OF_FORMULAS = JOBS[:9]
 BASELINE, LIBRARY = 0, 1
 RUNS = 100
 WITHOUT_TEXT = ("reciprocals, 8 quotients",)

@@ -85,10 +85,8 @@ static void two(packing *p, uint32_t code, uint32_t left, uint32_t right)
 /* The last value is the only output. Of the wide strays a part is admitted. */
 static workload finish(packing *p, int64_t wide)
 {
-    for (uint32_t i = 0; i < p->made.inputs; i++) {
+    for (uint32_t i = 0; i < p->made.inputs; i++)
         p->made.wide_strays[i] = wide;
-        p->made.card_strays[i] = p->made.strays[i] + p->made.margins[i];
-    }
     uint32_t last = p->made.inputs + p->made.instructions - 1;
     put(p, last, 10);
     p->made.output = last;

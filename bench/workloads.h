@@ -21,8 +21,6 @@ typedef struct {
     int64_t codes[MARGINS_MOST_INSTRUCTIONS], firsts[MARGINS_MOST_INSTRUCTIONS], seconds[MARGINS_MOST_INSTRUCTIONS], output;
     int64_t middles[MARGINS_MOST_INPUTS], strays[MARGINS_MOST_INPUTS], margins[MARGINS_MOST_INPUTS];
     int64_t wide_strays[MARGINS_MOST_INPUTS]; /* with them the domain is refused */
-    int64_t card_strays[MARGINS_MOST_INPUTS]; /* with them the margins around the middles are inside the domain */
-    uint64_t static_margins[MARGINS_MOST_OUTPUTS], slopes[MARGINS_MOST_SLOPES]; /* the card, once it is made */
     _Alignas(64) char text[MOST_TEXT];
     size_t text_length; /* 0: it has no text */
     uint32_t decimals;

@@ -1,6 +1,6 @@
 /* Packed formulas run on readings, each figure with an honest margin; and packed from lists or from a text, and read back into lists. A
  * figure is printed as a decimal number, and a decimal number is read as a reading, with the rounding in the margin. Of a domain that is not
- * admitted, how far it must shrink; of one that is, a card off which margins are read without the formula.
+ * admitted, how far it must shrink.
  *
  * Every function may be called with any bytes, any numbers and lists of any length: it answers or refuses, and a refusal
  * writes no output. Nothing has to be checked first. A list is a pointer and the number of its places. Where that number is 0 the
@@ -48,8 +48,6 @@ extern "C" {
 #define MARGINS_MOST_OUTPUTS 16
 #define MARGINS_MOST_INSTRUCTIONS 512
 #define MARGINS_MOST_VALUES 528
-/* A slope for each output and input. */
-#define MARGINS_MOST_SLOPES 256
 /* The longest formula: 32 bits of header, 512 coefficients of 66 bits, 16 outputs of 10 bits. */
 #define MARGINS_MOST_BYTES 4248
 /* The longest text of a ball: a minus, two numbers of 10 digits before the point and 9 behind it, and 4 bytes between them. */
@@ -58,10 +56,8 @@ extern "C" {
 /* Why there is no answer. A refusal is one of these numbers, 0 is none; a later library may give further ones. 9 is not given any more.
  * They are tested in this order: 1 to 8 and 16 field by field, 13 to 15, 10, then instruction by instruction 17 and 11; of a text 3 and 4,
  * then 18 and 19 byte by byte, then instruction by instruction 4 and 7, then 10; of a ball to be printed 3, 27, 26, then 10; of a decimal
- * number with its margin 3, 24, 25, 26, then 10; of a domain to be explained 1 to 8 and 16 field by field, then 13 to 15; of a card to be made
- * 1 to 8 and 16 field by field, 13 to 15, 22, 10, then 17 and 11 as in an admission, then 11 of a slope, instruction by instruction; of a card
- * to be used 3, 4, 13 to 15 of the domain, 13 to 15 of the readings, 10, 20, then 11 output by output. Where nothing is said of `place` it
- * is 0. */
+ * number with its margin 3, 24, 25, 26, then 10; of a domain to be explained 1 to 8 and 16 field by field, then 13 to 15. Where nothing is
+ * said of `place` it is 0. */
 enum {
     MARGINS_DONE = 0,
     MARGINS_REFUSED_ENDED = 1,              /* the bytes end inside a field */
@@ -89,20 +85,13 @@ enum {
                                              * good */
     MARGINS_REFUSED_READING_TOO_LARGE = 15, /* reading `place`, counted from 0, has |centre| + stray + margin over 2147483647; those
                                              * before it are good */
-    MARGINS_REFUSED_MARGIN_NOT_ZERO = 22,   /* a margin of the domain isn't 0: a card is made for a domain whose margins are all 0, and the
-                                             * margins of the readings come when it is used */
-    MARGINS_REFUSED_NO_ROOM = 10,           /* a list to be written, or a list of a card, is too short */
-    MARGINS_REFUSED_CARD = 20,              /* a static margin or a slope of a card is over 2147483647, as one below 0 is that was made a
-                                             * uint64_t; or a reading isn't wholly inside the card's domain: |centre - middle| + margin is
-                                             * over the stray */
+    MARGINS_REFUSED_NO_ROOM = 10,           /* a list to be written is too short */
     MARGINS_REFUSED_MAY_BE_ZERO = 17,       /* instruction `place`, counted from 0, is a reciprocal of what may be 0: its operand is 0, or
                                              * its margin, with the stray in an admission, reaches 0. Keep it away from 0, or shrink the
                                              * margins or the domain, so that |centre| is over margin plus stray. Of a domain
                                              * margins_explain tells how far */
     MARGINS_REFUSED_OUT_OF_REACH = 11,      /* the result of instruction `place`, counted from 0, is out of reach: shrink the readings
-                                             * or the domain, or use a smaller scale. Of a domain margins_explain tells how far. Of a
-                                             * card that is made also a slope over 2147483647; of one that is used the margin of output
-                                             * `place`, counted from 0, is over 2147483647 */
+                                             * or the domain, or use a smaller scale. Of a domain margins_explain tells how far */
     MARGINS_REFUSED_FORM = 12               /* the program's input has another form; no function gives it */
 };
 
@@ -133,9 +122,7 @@ MARGINS_IN_HEADER const char *margins_refusal_text(uint32_t refusal)
     case MARGINS_REFUSED_READING_COUNT: return "the number of readings isn't that of the inputs";
     case MARGINS_REFUSED_NEGATIVE_MARGIN: return "a reading has a negative stray or margin";
     case MARGINS_REFUSED_READING_TOO_LARGE: return "a reading's |centre| + stray + margin is over 2147483647";
-    case MARGINS_REFUSED_MARGIN_NOT_ZERO: return "a margin of the domain isn't 0";
-    case MARGINS_REFUSED_NO_ROOM: return "a list to be written, or a list of a card, is too short";
-    case MARGINS_REFUSED_CARD: return "a card's number is over 2147483647, or a reading isn't inside the domain";
+    case MARGINS_REFUSED_NO_ROOM: return "a list to be written is too short";
     case MARGINS_REFUSED_MAY_BE_ZERO: return "a reciprocal of what may be 0";
     case MARGINS_REFUSED_OUT_OF_REACH: return "a step's result is out of reach";
     case MARGINS_REFUSED_FORM: return "the program's input has another form";
@@ -145,8 +132,8 @@ MARGINS_IN_HEADER const char *margins_refusal_text(uint32_t refusal)
 
 /* refusal 0: that many outputs were written, and place is 0. Else no output was written and outputs is 0; place says where, counted from
  * 0: the reading with MARGINS_REFUSED_NEGATIVE_MARGIN and MARGINS_REFUSED_READING_TOO_LARGE, the instruction with
- * MARGINS_REFUSED_MAY_BE_ZERO and MARGINS_REFUSED_OUT_OF_REACH, but the output with the latter where a card is used, the byte of the number's
- * text with MARGINS_REFUSED_NUMBER_TEXT, of the margin's text with MARGINS_REFUSED_MARGIN_TEXT; it is 0 with the others. */
+ * MARGINS_REFUSED_MAY_BE_ZERO and MARGINS_REFUSED_OUT_OF_REACH, the byte of the number's text with MARGINS_REFUSED_NUMBER_TEXT, of the
+ * margin's text with MARGINS_REFUSED_MARGIN_TEXT; it is 0 with the others. */
 typedef struct {
     uint32_t refusal;
     uint32_t outputs;
@@ -274,37 +261,6 @@ MARGINS_MUST_USE margins_explanation margins_explain(
     const int64_t *middles, size_t middles_length,  /* read: the middle of the centres, one for each input */
     const int64_t *strays, size_t strays_length,    /* read: how far a centre may be from it, one for each input; at least 0 */
     const int64_t *margins, size_t margins_length); /* read: the largest margin of a reading, one for each input; at least 0 */
-
-/* The card of a formula, made once for a domain whose margins are all 0. For each output it holds the static margin that margins_admit gives, and
- * for each output and input a slope: how much of the input's margin comes into the output's, in units of 1/Q, where Q is 2^F. An input has
- * slope Q on itself and 0 on others, a constant 0; a sum or difference has both slopes together, a negation its operand's, a product
- * (reach(X)*L(Y) + reach(Y)*L(X))/Q and a reciprocal Q*Q*L/(w*w), both rounded up. Reaches, |c| + r, and w, |c| - r, are those of margins_ball
- * over the domain, each middle with its stray as margin. Nothing else is lent. Later places, and with a refusal all, keep what they held. */
-MARGINS_MUST_USE margins_reply margins_make_card(
-    const uint8_t *formula, size_t formula_length,          /* read: the packed bytes */
-    const int64_t *middles, size_t middles_length,          /* read: the middle of the centres, one for each input */
-    const int64_t *strays, size_t strays_length,            /* read: how far a reading may reach from it, one for each input; at least 0 */
-    const int64_t *margins, size_t margins_length,          /* read: 0 for each input */
-    uint64_t *static_margins, size_t static_margins_length, /* written: the static margin, for each output; MARGINS_MOST_OUTPUTS are enough */
-    uint64_t *slopes, size_t slopes_length);                /* written: output by output a slope for each input, that of output j for input i
-                                                             * at j * inputs + i; MARGINS_MOST_SLOPES are enough */
-
-/* Off the card alone, with no walk through the formula: the margin of each output, which is its static margin and for each input slope*margin/Q,
- * rounded up. The readings must be wholly inside the domain that the card was made for: |centre - middle| + margin is at most the stray. Then
- * every exact result is within this margin of the centre that margins_plain computes. That centre with this margin may have a reach over
- * 2147483647. The card may be typed in: its numbers are tested, but not that they are those of a formula. Later places of what is written, and
- * with a refusal all, keep what they held; those of the card are not looked at. */
-MARGINS_MUST_USE margins_reply margins_use_card(
-    int64_t scale,                                                /* 0 to 30, that of the formula */
-    int64_t inputs,                                               /* 0 to 16, as many as the formula has */
-    int64_t outputs,                                              /* 1 to 16, as many as the formula has */
-    const int64_t *middles, size_t middles_length,                /* read: the middles of the card's domain, one for each input */
-    const int64_t *strays, size_t strays_length,                  /* read: its strays, one for each input; at least 0 */
-    const uint64_t *static_margins, size_t static_margins_length, /* read: the card's static margins, for each output; at most 2147483647 */
-    const uint64_t *slopes, size_t slopes_length,                 /* read: its slopes, output by output one for each input; likewise */
-    const int64_t *centres, size_t centres_length,                /* read: what was read, one for each input */
-    const int64_t *margins, size_t margins_length,                /* read: how far the truth may be from it, one for each input; at least 0 */
-    uint64_t *output_margins, size_t output_margins_length);      /* written: a margin for each output */
 
 /* A formula as lists. Instruction k has the code codes[k] and the fields firsts[k] and seconds[k]; it makes value inputs + k and may name
  * only smaller values. The outputs may name any value. */

@@ -1,8 +1,8 @@
 /* Runs framed cases from standard input and writes framed replies to standard output; frames.py, packing_frames.py, text_frames.py,
- * doubles_frames.py, decimal_frames.py, explaining_frames.py and card_frames.py tell the forms. Each list is allocated at exactly its length, so
- * that a memory checker sees every step beyond it. In half of the cases of packing, of texts, of doubles, of decimals and of cards sentinels
- * stand behind each list that is written instead, and in half of those of explaining and of cards on both sides of each list that is read, so
- * that a step beyond is seen without a checker. */
+ * doubles_frames.py, decimal_frames.py and explaining_frames.py tell the forms. Each list is allocated at exactly its length, so that a memory
+ * checker sees every step beyond it. In half of the cases of packing, of texts, of doubles and of decimals sentinels stand behind each list
+ * that is written instead, and in half of those of explaining on both sides of each list that is read, so that a step beyond is seen without
+ * a checker. */
 #include "margins.h"
 
 #include <stdbool.h>
@@ -10,12 +10,10 @@
 #include <stdlib.h>
 #include <string.h>
 
-enum { CHECK, PLAIN, BALL, ADMIT, RECORDS, PACK, UNPACK, DOUBLES, TEXT, TO_DECIMAL, FROM_DECIMAL, EXPLAIN, MAKE_CARD, USE_CARD };
+enum { CHECK, PLAIN, BALL, ADMIT, RECORDS, PACK, UNPACK, DOUBLES, TEXT, TO_DECIMAL, FROM_DECIMAL, EXPLAIN };
 enum { CODES, FIRSTS, SECONDS, OUTPUTS, PACKING_LISTS };
 enum { CENTRES, MARGINS, DECIMAL_LISTS };
 enum { MIDDLES, STRAYS, DOMAIN_MARGINS, DOMAIN_LISTS };
-enum { STATIC_MARGINS, SLOPES, CARD_LISTS };
-enum { CARD_MARGINS = DOMAIN_MARGINS, CARD_SLOPES, BALL_CENTRES, BALL_MARGINS, USED_LISTS };
 enum { MOST_PARTS = 3, BEHIND = 8, BUFFER = 1 << 20 };
 
 typedef struct {
@@ -444,83 +442,27 @@ static watched watch_list(size_t list_number, size_t around)
     return w;
 }
 
-static void watch_all(watched *lists, size_t count, size_t around)
-{
-    for (size_t i = 0; i < count; i++)
-        lists[i] = watch_list(i, around);
-}
-
-/* Whether all of these are as they were; they are then no longer needed. */
-static bool kept_all(watched *lists, size_t count)
-{
-    bool kept = true;
-    for (size_t i = 0; i < count; i++) {
-        kept = kept && same(lists[i].whole.places, lists[i].kept.places, bytes_of(lists[i].whole));
-        free(lists[i].whole.places);
-        free(lists[i].kept.places);
-    }
-    return kept;
-}
-
 static void explain_case(size_t number)
 {
     watched lists[DOMAIN_LISTS];
     packed formula = take_formula(number);
-    watch_all(lists, DOMAIN_LISTS, places_behind(number));
+    for (size_t i = 0; i < DOMAIN_LISTS; i++)
+        lists[i] = watch_list(i, places_behind(number));
     const list middles = lists[MIDDLES].in, strays = lists[STRAYS].in, margins = lists[DOMAIN_MARGINS].in;
 
     margins_explanation answer = margins_explain(formula.bytes, formula.length, middles.places, middles.length,
                                                  strays.places, strays.length, margins.places, margins.length);
     give(&answer, sizeof answer);
-    uint8_t intact = kept_all(lists, DOMAIN_LISTS) & same(formula.bytes, formula.kept, formula.length);
+    uint8_t intact = same(formula.bytes, formula.kept, formula.length);
+    for (size_t i = 0; i < DOMAIN_LISTS; i++)
+        intact = intact && same(lists[i].whole.places, lists[i].kept.places, bytes_of(lists[i].whole));
     give(&intact, sizeof intact);
+
+    for (size_t i = 0; i < DOMAIN_LISTS; i++) {
+        free(lists[i].whole.places);
+        free(lists[i].kept.places);
+    }
     free_formula(formula);
-}
-
-static void make_card_case(size_t number)
-{
-    watched lists[DOMAIN_LISTS];
-    list lent[CARD_LISTS];
-    const size_t around = places_behind(number);
-    packed formula = take_formula(number);
-    watch_all(lists, DOMAIN_LISTS, around);
-    for (size_t i = 0; i < CARD_LISTS; i++)
-        lent[i] = lend(i, around, sentinel);
-    const list middles = lists[MIDDLES].in, strays = lists[STRAYS].in, margins = lists[DOMAIN_MARGINS].in;
-
-    margins_reply answer = margins_make_card(formula.bytes, formula.length, middles.places, middles.length, strays.places, strays.length,
-                                             margins.places, margins.length,
-                                             (uint64_t *)lent[STATIC_MARGINS].places, lent[STATIC_MARGINS].length,
-                                             (uint64_t *)lent[SLOPES].places, lent[SLOPES].length);
-    give(&answer, sizeof answer);
-    uint8_t intact = kept_all(lists, DOMAIN_LISTS) & same(formula.bytes, formula.kept, formula.length) &
-                     kept_behind_all(lent, CARD_LISTS, around);
-    give(&intact, sizeof intact);
-    give_all(lent, CARD_LISTS);
-    free_formula(formula);
-}
-
-static void use_card_case(size_t number)
-{
-    int64_t scale, inputs, outputs;
-    watched lists[USED_LISTS];
-    const size_t around = places_behind(number);
-    take(&scale, sizeof scale);
-    take(&inputs, sizeof inputs);
-    take(&outputs, sizeof outputs);
-    watch_all(lists, USED_LISTS, around);
-    list lent = lend(0, around, sentinel);
-    const list middles = lists[MIDDLES].in, strays = lists[STRAYS].in, static_margins = lists[CARD_MARGINS].in,
-               slopes = lists[CARD_SLOPES].in, centres = lists[BALL_CENTRES].in, margins = lists[BALL_MARGINS].in;
-
-    margins_reply answer = margins_use_card(scale, inputs, outputs, middles.places, middles.length, strays.places, strays.length,
-                                            (const uint64_t *)static_margins.places, static_margins.length,
-                                            (const uint64_t *)slopes.places, slopes.length, centres.places, centres.length,
-                                            margins.places, margins.length, (uint64_t *)lent.places, lent.length);
-    give(&answer, sizeof answer);
-    uint8_t intact = kept_all(lists, USED_LISTS) & kept_behind_all(&lent, 1, around);
-    give(&intact, sizeof intact);
-    give_all(&lent, 1);
 }
 
 int main(void)
@@ -543,10 +485,6 @@ int main(void)
             from_decimal_case(number);
         else if (job == EXPLAIN)
             explain_case(number);
-        else if (job == MAKE_CARD)
-            make_card_case(number);
-        else if (job == USE_CARD)
-            use_card_case(number);
         else if (job <= RECORDS)
             run_case(job, number);
         else

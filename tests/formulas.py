@@ -106,11 +106,7 @@ def random_outputs(rng, count, values):
 
 def random_run(rng, parts, scale, m, l, n):
     """A formula's bytes with readings for one kind of run: mostly in reach, at times at its edge or out of it."""
-    return grown_on(rng, scale, [reading(rng, scale, parts) for _ in range(m)], parts, l, n)
-
-
-def grown_on(rng, scale, readings, parts, l, n):
-    """The same on readings that are given."""
+    readings = [reading(rng, scale, parts) for _ in range(m)]
     growing = Growing(rng, scale, parts, readings)
     edge = rng.random()
     while len(growing.program) < l:
@@ -122,7 +118,7 @@ def grown_on(rng, scale, readings, parts, l, n):
             growing.add_near_zero()
         else:
             growing.add_in_reach()
-    data = growing.packed(random_outputs(rng, n, len(readings) + l))
+    data = growing.packed(random_outputs(rng, n, m + l))
     return data, tuple([value[part] for value in readings] for part in range(parts))
 
 

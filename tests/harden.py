@@ -5,9 +5,6 @@ import subprocess
 import sys
 from itertools import islice
 
-import card_cases
-import card_frames
-import card_using
 import cases
 import decimal_cases
 import decimal_frames
@@ -29,7 +26,6 @@ RANDOM_DOUBLES = 4000
 RANDOM_TEXTS = 4000
 RANDOM_DECIMALS = 4000
 RANDOM_EXPLAINING = 4000
-RANDOM_CARDS = 4000
 CHECKER = ["valgrind", "--quiet", "--error-exitcode=9", "--leak-check=full"]
 
 
@@ -93,18 +89,6 @@ def random_domain(rng):
     return explaining_frames.Case(some.data, some.readings)
 
 
-def random_card(rng):
-    """Any bytes or counts, any numbers in lists of any length."""
-    if rng.randrange(2):
-        some = random_case(rng, ("admit",))
-        return card_frames.Make(some.data, some.readings, tuple(rng.choice((0, 1, 2, 17, 300)) for _ in range(2)))
-    size = rng.randrange(18)
-    lists = [[card_using.any_number(rng) for _ in range(size if rng.random() < 0.95 else rng.randrange(18))] for _ in range(4)]
-    card = [[rng.randrange(99) if rng.random() < 0.9 else rng.getrandbits(64) for _ in range(rng.choice((0, 1, 16, 257)))] for _ in range(2)]
-    scale, inputs, outputs = (number if rng.random() < 0.9 else card_using.any_number(rng) for number in (rng.randrange(31), size, rng.randrange(17)))
-    return card_frames.Use(scale, inputs, outputs, lists[:2], card, lists[2:], rng.choice((0, 1, 16, 20)))
-
-
 def survived(driver, form, some):
     """Whether the driver gives the replies that it should to these cases, and the checker finds nothing."""
     asked = b"".join(map(form.asked, some))
@@ -125,10 +109,9 @@ def main(driver):
     read = list(islice(text_cases.all_cases(), 0, None, EVERY)) + [random_text(rng) for _ in range(RANDOM_TEXTS)]
     decimals = list(islice(decimal_cases.all_cases(), 0, None, EVERY)) + [random_decimal(rng) for _ in range(RANDOM_DECIMALS)]
     explained = list(islice(explaining_cases.all_cases(), 0, None, EVERY)) + [random_domain(rng) for _ in range(RANDOM_EXPLAINING)]
-    cards = list(islice(card_cases.all_cases(), 0, None, EVERY)) + [random_card(rng) for _ in range(RANDOM_CARDS)]
     parts = (
         *((frames, runs), (packing_frames, packing), (doubles_frames, doubles), (text_frames, read), (decimal_frames, decimals)),
-        *((explaining_frames, explained), (card_frames, cards)),
+        (explaining_frames, explained),
     )
     good = [survived(driver, *some) for some in parts]
     print(f"{good.count(True)} passed, {good.count(False)} failed")

@@ -1,6 +1,6 @@
 /* A first program with margins.h: one formula checked, run on readings, its figures printed and given as doubles, admitted for a whole
- * domain, refused domains explained, its card made and used, packed from lists and from its text, and read back; then a weight that was
- * rounded, a quotient, and decimal numbers out and in. At scale 4 a unit is 1/16. The formula is x*y + x. */
+ * domain, refused domains explained, packed from lists and from its text, and read back; then a weight that was rounded, a quotient, and
+ * decimal numbers out and in. At scale 4 a unit is 1/16. The formula is x*y + x. */
 #include <inttypes.h>
 #include <stdbool.h>
 #include <stdio.h>
@@ -208,39 +208,6 @@ static void explain(const int64_t middles[2], const int64_t strays[2], const int
     }
 }
 
-/* A card for the domain, and the margin that it gives; the margins of the domain are those of the card's making. */
-static void card(const int64_t domain_margins[2], size_t slopes_length, const int64_t centres[2], const int64_t margins[2])
-{
-    static const int64_t middles[] = {24, -10}, strays[] = {3, 2};
-    uint64_t static_margins[MARGINS_MOST_OUTPUTS], slopes[MARGINS_MOST_SLOPES];
-    margins_reply reply = margins_make_card(formula, sizeof formula, middles, 2, strays, 2, domain_margins, 2,
-                                            static_margins, MARGINS_MOST_OUTPUTS, slopes, slopes_length);
-    if (reply.refusal) {
-        tell_refusal("card", reply);
-        return;
-    }
-    printf("card: E %" PRIu64 ", slopes %" PRIu64 " and %" PRIu64 "\n", static_margins[0], slopes[0], slopes[1]);
-    reply = margins_use_card(4, 2, 1, middles, 2, strays, 2, static_margins, reply.outputs, slopes, slopes_length, centres, 2, margins, 2,
-                             output_margins, MARGINS_MOST_OUTPUTS);
-    if (reply.refusal)
-        tell_refusal("card", reply);
-    else
-        printf("card: give or take %" PRIu64 "\n", output_margins[0]);
-}
-
-/* A card with one input and two outputs as it was typed in; the place of 11 is an output then. */
-static void typed_card(uint64_t static_margin, uint64_t slope)
-{
-    static const int64_t middle = 0, stray = 16, margin = 16;
-    const uint64_t static_margins[] = {0, static_margin}, slopes[] = {16, slope};
-    margins_reply reply = margins_use_card(4, 1, 2, &middle, 1, &stray, 1, static_margins, 2, slopes, 2, &middle, 1, &margin, 1,
-                                           output_margins, MARGINS_MOST_OUTPUTS);
-    if (reply.refusal)
-        printf("typed card: refused %" PRIu32 ", %s, at %" PRIu64 "\n", reply.refusal, margins_refusal_text(reply.refusal), reply.place);
-    else
-        printf("typed card: give or take %" PRIu64 " and %" PRIu64 "\n", output_margins[0], output_margins[1]);
-}
-
 /* x is value 0 and y value 1; value 2 is their product, and value 3 is that plus x. */
 static void pack(int64_t scale, size_t length)
 {
@@ -355,21 +322,6 @@ static void try_explaining(void)
     explain((const int64_t[]){2147483647, -10}, (const int64_t[]){3, 2}, (const int64_t[]){1, 1}, 2);
 }
 
-static void try_cards(void)
-{
-    static const int64_t none[] = {0, 0}, centres[] = {24, -10};
-    card(none, MARGINS_MOST_SLOPES, centres, (const int64_t[]){2, 1});
-    card(none, 2, (const int64_t[]){26, -9}, (const int64_t[]){1, 0});
-    card(none, 2, (const int64_t[]){26, -9}, (const int64_t[]){2, 0});
-    card(none, 2, centres, (const int64_t[]){2, -1});
-    card(none, 1, centres, (const int64_t[]){2, 1});
-    card((const int64_t[]){0, 1}, 2, centres, (const int64_t[]){2, 1});
-    card((const int64_t[]){0, -1}, 2, centres, (const int64_t[]){2, 1});
-    typed_card(2147483647 - 28, 28);
-    typed_card(2147483647 - 28, 29);
-    typed_card((uint64_t)INT64_C(-1), 28);
-}
-
 static void try_packing(void)
 {
     pack(4, MARGINS_MOST_BYTES);
@@ -421,7 +373,6 @@ int main(void)
 {
     try_runs();
     try_explaining();
-    try_cards();
     try_packing();
     try_decimals();
     for (uint32_t refusal = 0; refusal <= MARGINS_REFUSED_DECIMALS + 1; refusal++)

@@ -1,8 +1,6 @@
 //! The C functions of `include/margins.h`, each called once. A slice is what they ask of a list: memory that is there, aligned and,
 //! where it is written, disjoint from every other.
-use crate::{
-    CardLists, Decimal, Explanation, Formula, LentBalls, LentDoubles, LentInstructions, LentMatryoshki, Reading, Refusal, Refused,
-};
+use crate::{Decimal, Explanation, Formula, LentBalls, LentDoubles, LentInstructions, LentMatryoshki, Reading, Refusal, Refused};
 
 #[repr(C)]
 struct Reply {
@@ -93,24 +91,6 @@ extern "C" {
         strays: *const i64, strays_length: usize,
         margins: *const i64, margins_length: usize,
     ) -> Explained;
-    fn margins_make_card(
-        formula: *const u8, formula_length: usize,
-        middles: *const i64, middles_length: usize,
-        strays: *const i64, strays_length: usize,
-        margins: *const i64, margins_length: usize,
-        static_margins: *mut u64, static_margins_length: usize,
-        slopes: *mut u64, slopes_length: usize,
-    ) -> Reply;
-    fn margins_use_card(
-        scale: i64, inputs: i64, outputs: i64,
-        middles: *const i64, middles_length: usize,
-        strays: *const i64, strays_length: usize,
-        static_margins: *const u64, static_margins_length: usize,
-        slopes: *const u64, slopes_length: usize,
-        centres: *const i64, centres_length: usize,
-        margins: *const i64, margins_length: usize,
-        output_margins: *mut u64, output_margins_length: usize,
-    ) -> Reply;
     fn margins_pack(
         scale: i64, inputs: i64,
         codes: *const i64, codes_length: usize,
@@ -158,14 +138,6 @@ fn told(reply: Reply) -> Result<usize, Refused> {
         None => Ok(reply.outputs as usize),
         Some(refused) => Err(refused),
     }
-}
-
-/// Where a card is used, 11 is about an output and no instruction.
-fn told_of_outputs(reply: Reply) -> Result<usize, Refused> {
-    told(reply).map_err(|refused| match refused.refusal {
-        Refusal::OutOfReach => Refused { refusal: Refusal::MarginOutOfReach, ..refused },
-        _ => refused,
-    })
 }
 
 fn checked(reply: Checked) -> Result<Formula, Refused> {
@@ -325,51 +297,6 @@ pub fn explain(formula: &[u8], middles: &[i64], strays: &[i64], margins: &[i64])
     })
 }
 
-pub fn make_card(
-    formula: &[u8], middles: &[i64], strays: &[i64], margins: &[i64], static_margins: &mut [u64], slopes: &mut [u64],
-) -> Result<usize, Refused> {
-    told(unsafe {
-        margins_make_card(
-            formula.as_ptr(),
-            formula.len(),
-            middles.as_ptr(),
-            middles.len(),
-            strays.as_ptr(),
-            strays.len(),
-            margins.as_ptr(),
-            margins.len(),
-            static_margins.as_mut_ptr(),
-            static_margins.len(),
-            slopes.as_mut_ptr(),
-            slopes.len(),
-        )
-    })
-}
-
-pub fn use_card(card: &CardLists<'_>, centres: &[i64], margins: &[i64], output_margins: &mut [u64]) -> Result<usize, Refused> {
-    told_of_outputs(unsafe {
-        margins_use_card(
-            card.scale,
-            card.inputs,
-            card.outputs,
-            card.middles.as_ptr(),
-            card.middles.len(),
-            card.strays.as_ptr(),
-            card.strays.len(),
-            card.static_margins.as_ptr(),
-            card.static_margins.len(),
-            card.slopes.as_ptr(),
-            card.slopes.len(),
-            centres.as_ptr(),
-            centres.len(),
-            margins.as_ptr(),
-            margins.len(),
-            output_margins.as_mut_ptr(),
-            output_margins.len(),
-        )
-    })
-}
-
 pub fn pack(
     scale: i64, inputs: i64, codes: &[i64], firsts: &[i64], seconds: &[i64], outputs: &[i64], formula: &mut [u8],
 ) -> Result<usize, Refused> {
@@ -460,24 +387,12 @@ mod tests {
 
     #[test]
     fn a_later_number_is_a_refusal_and_no_panic() {
-        for number in [9, 12, 21, 23, 28, 255, 1 << 16, u32::MAX] {
+        for number in [9, 12, 20, 23, 28, 255, 1 << 16, u32::MAX] {
             let expected = Refused { refusal: Refusal::Other(number), place: None };
             assert_eq!(told(Reply { refusal: number, outputs: 0, place: u64::MAX }), Err(expected));
             assert_eq!(checked_with(number), Err(expected));
             assert_eq!(packed(Packed { refusal: number, bytes: 0, place: u64::MAX }), Err(expected));
         }
-    }
-
-    #[test]
-    fn the_place_of_11_is_an_output_where_a_card_is_used() {
-        let reply = |refusal| Reply { refusal, outputs: 0, place: 3 };
-        let refused = told_of_outputs(reply(11)).unwrap_err();
-        assert!(matches!(refused.refusal, Refusal::MarginOutOfReach));
-        assert_eq!(refused, told(reply(11)).unwrap_err());
-        for number in (1..=30).filter(|&number| number != 11) {
-            assert_eq!(told_of_outputs(reply(number)), told(reply(number)));
-        }
-        assert_eq!(told_of_outputs(Reply { refusal: 0, outputs: 5, place: 0 }), Ok(5));
     }
 
     #[test]
@@ -504,7 +419,7 @@ mod tests {
             assert_eq!(reply(0, 2, 255, number as u16), Ok(Explanation::AdmittedTo { parts: 255, met }));
             assert_eq!(reply(0, 3, 0, number as u16), Ok(Explanation::NeverAdmitted { met }));
         }
-        for number in (1..=8).chain([13, 14, 15, 16, 21, u32::MAX]) {
+        for number in (1..=8).chain([13, 14, 15, 16, 20, u32::MAX]) {
             assert_eq!(reply(number, 0, 0, 0), Err(refused(number, 3).unwrap()));
         }
     }

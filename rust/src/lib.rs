@@ -2,12 +2,12 @@
 //!
 //! A formula is a string of bytes. [`check`] says whether bytes are one; [`plain`] runs it on bare readings, [`ball`] on readings with a
 //! margin each, [`ball_doubles`] as [`ball`] with its figures as doubles, [`admit`] once on a whole domain; [`explain`] says of a domain that
-//! [`admit`] refuses how far it must shrink, [`make_card`] makes a [`Card`] of one, off which margins are read without the formula.
-//! [`pack_text`] makes the bytes of a formula as people write it, [`pack`] those of lists of instructions and outputs, [`unpack`] the lists of
-//! bytes. [`to_decimal`] prints a figure with its margin, [`from_decimal`] reads a decimal number with its margin as a reading. Every function
-//! may be called with any bytes, any numbers and lists of any length: it answers or refuses, and a refusal writes no output. [`Refused`] says
-//! why and, where it is about one of them, which reading, instruction, output or byte of a text. Readings, constants and results, but for those
-//! doubles, the numbers of a text and decimal numbers, are whole counts of one unit, 2^-F, where F is the formula's scale.
+//! [`admit`] refuses how far it must shrink. [`pack_text`] makes the bytes of a formula as people write it, [`pack`] those of lists of
+//! instructions and outputs, [`unpack`] the lists of bytes. [`to_decimal`] prints a figure with its margin, [`from_decimal`] reads a decimal
+//! number with its margin as a reading. Every function may be called with any bytes, any numbers and lists of any length: it answers or
+//! refuses, and a refusal writes no output. [`Refused`] says why and, where it is about one of them, which reading, instruction or byte of a
+//! text. Readings, constants and results, but for those doubles, the numbers of a text and decimal numbers, are whole counts of one unit,
+//! 2^-F, where F is the formula's scale.
 //!
 //! The caller lends the memory: a work list needs a place for each value, an output list one for each output. [`Balls`] and [`Matryoshki`]
 //! have room for every formula, [`Doubles`] for the outputs of every formula; [`check`] tells what one formula needs. After an answer the
@@ -28,13 +28,11 @@
 #![no_std]
 #![warn(missing_docs)]
 
-mod card;
 pub mod code;
 mod door;
 mod lists;
 mod refusal;
 
-pub use card::{make_card, Card, CardLists};
 pub use lists::{Balls, Doubles, Instructions, LentBalls, LentDoubles, LentInstructions, LentMatryoshki, Matryoshki, Reading};
 pub use refusal::{Refusal, Refused};
 
@@ -46,8 +44,6 @@ pub const MOST_OUTPUTS: usize = 16;
 pub const MOST_INSTRUCTIONS: usize = 512;
 /// Values, inputs and instructions together, that a formula has at most.
 pub const MOST_VALUES: usize = 528;
-/// Slopes that a card has at most: one for each output and input.
-pub const MOST_SLOPES: usize = 256;
 /// Bytes that a formula has at most.
 pub const MOST_BYTES: usize = 4248;
 /// Bytes that the text of [`to_decimal`] has at most.
@@ -195,25 +191,6 @@ pub fn admit(
 /// ```
 pub fn explain(formula: &[u8], middles: &[i64], strays: &[i64], margins: &[i64]) -> Result<Explanation, Refused> {
     door::explain(formula, middles, strays, margins)
-}
-
-/// As [`make_card`], into lent lists, which need a place for each output and a place for each output and input; the answer is how many
-/// outputs there are. The slope of output j for input i is at j · inputs + i. Later places, and with a refusal all, keep what they held; lists
-/// that are too short are refused with [`Refusal::NoRoom`] after [`Refusal::MarginNotZero`].
-pub fn make_card_lists(
-    formula: &[u8], middles: &[i64], strays: &[i64], margins: &[i64], static_margins: &mut [u64], slopes: &mut [u64],
-) -> Result<usize, Refused> {
-    door::make_card(formula, middles, strays, margins, static_margins, slopes)
-}
-
-/// As [`Card::margins`], off a card that is lists, into a lent list that needs a place for each output; the answer is how many there are.
-/// Later places, and with a refusal all, keep what they held.
-///
-/// The card is tested at each use: [`Refusal::Scale`], [`Refusal::Count`], then the domain and then the readings with
-/// [`Refusal::ReadingCount`], [`Refusal::NegativeMargin`] and [`Refusal::ReadingTooLarge`], then [`Refusal::NoRoom`], [`Refusal::Card`] and
-/// [`Refusal::MarginOutOfReach`].
-pub fn use_card_lists(card: &CardLists<'_>, centres: &[i64], margins: &[i64], output_margins: &mut [u64]) -> Result<usize, Refused> {
-    door::use_card(card, centres, margins, output_margins)
 }
 
 /// Packs lists into the first places of `formula`; the answer is how many bytes it has.

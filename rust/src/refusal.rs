@@ -23,14 +23,11 @@ pub enum Refusal {
     Constant,
     /// 8: a padding bit is set or a byte follows.
     Padding,
-    /// 10: a list to be written, or a list of a card, is too short.
+    /// 10: a list to be written is too short.
     NoRoom,
     /// 11: a step's result is out of reach. The place is the instruction, from 0. Of a domain [`explain`](crate::explain) tells how far it must
-    /// shrink. Of [`make_card`](crate::make_card) also a slope over 2147483647.
+    /// shrink.
     OutOfReach,
-    /// 11 where a card is used: the margin of an output is over 2147483647. The place is the output, from 0. It is equal to
-    /// [`Refusal::OutOfReach`], for it has the same number.
-    MarginOutOfReach,
     /// 13: the number of readings isn't that of the inputs.
     ReadingCount,
     /// 14: a reading has a negative stray or margin. The place is the reading, from 0; those before it are good.
@@ -48,10 +45,6 @@ pub enum Refusal {
     Misplaced,
     /// 19: over 32 parentheses and minuses of the text are open at once. The place is the byte, from 0, that opens the 33rd.
     TooDeep,
-    /// 20: a static margin or a slope of a card is over 2147483647, or a reading isn't wholly inside the card's domain.
-    Card,
-    /// 22: a margin of the domain isn't 0: a card is made for a domain whose margins are all 0, and the margins come when it is used.
-    MarginNotZero,
     /// 24: no decimal number that begins as this one has this byte there, or the text ends too early. The place is the byte, from 0, or the
     /// text's length where it ends too early; what stands before it is good.
     NumberText,
@@ -92,8 +85,6 @@ impl Refusal {
             17 => Refusal::MayBeZero,
             18 => Refusal::Misplaced,
             19 => Refusal::TooDeep,
-            20 => Refusal::Card,
-            22 => Refusal::MarginNotZero,
             24 => Refusal::NumberText,
             25 => Refusal::MarginText,
             26 => Refusal::BallReach,
@@ -104,9 +95,6 @@ impl Refusal {
 
     /// What the place of this refusal counts; without a name here it has no place.
     pub(crate) const fn place_name(self) -> Option<&'static str> {
-        if let Refusal::MarginOutOfReach = self {
-            return Some("output");
-        }
         match self.number() {
             11 | 17 => Some("instruction"),
             14 | 15 => Some("reading"),
@@ -127,9 +115,8 @@ impl Refusal {
             Refusal::Operand => (6, "an operand or output names no permitted value"),
             Refusal::Constant => (7, "a constant is outside -2147483647 to 2147483647, or its margin is below 0 or reaches outside"),
             Refusal::Padding => (8, "a padding bit is set or a byte follows"),
-            Refusal::NoRoom => (10, "a list to be written, or a list of a card, is too short"),
+            Refusal::NoRoom => (10, "a list to be written is too short"),
             Refusal::OutOfReach => (11, "a step's result is out of reach"),
-            Refusal::MarginOutOfReach => (11, "an output's margin is out of reach"),
             Refusal::ReadingCount => (13, "the number of readings isn't that of the inputs"),
             Refusal::NegativeMargin => (14, "a reading has a negative stray or margin"),
             Refusal::ReadingTooLarge => (15, "a reading's |centre| + stray + margin is over 2147483647"),
@@ -137,8 +124,6 @@ impl Refusal {
             Refusal::MayBeZero => (17, "a reciprocal of what may be 0"),
             Refusal::Misplaced => (18, "the text has a byte that cannot stand there, or ends too early"),
             Refusal::TooDeep => (19, "over 32 parentheses and minuses of the text are open at once"),
-            Refusal::Card => (20, "a card's number is over 2147483647, or a reading isn't inside the domain"),
-            Refusal::MarginNotZero => (22, "a margin of the domain isn't 0"),
             Refusal::NumberText => (24, "the number's text has a byte that cannot stand there, or ends too early"),
             Refusal::MarginText => (25, "the margin's text has a byte that cannot stand there, or ends too early"),
             Refusal::BallReach => (26, "the ball's |centre| + margin is over 2147483647 units"),
@@ -148,7 +133,7 @@ impl Refusal {
     }
 }
 
-// By the number, so that `Refusal::Other(21)` stays equal to what the library gives once a later version names 21.
+// By the number, so that `Refusal::Other(20)` stays equal to what the library gives once a later version names 20.
 impl PartialEq for Refusal {
     fn eq(&self, other: &Self) -> bool {
         self.number() == other.number()
@@ -188,9 +173,9 @@ pub struct Refused {
     /// Why.
     pub refusal: Refusal,
     /// Where, from 0: with [`Refusal::OutOfReach`] and [`Refusal::MayBeZero`] the instruction, with [`Refusal::NegativeMargin`] and
-    /// [`Refusal::ReadingTooLarge`] the reading, with [`Refusal::MarginOutOfReach`] the output, with [`Refusal::Misplaced`] and
-    /// [`Refusal::TooDeep`] the byte of the text, with [`Refusal::NumberText`] that of the number's text and with [`Refusal::MarginText`] that
-    /// of the margin's. The other refusals of this version have no place.
+    /// [`Refusal::ReadingTooLarge`] the reading, with [`Refusal::Misplaced`] and [`Refusal::TooDeep`] the byte of the text, with
+    /// [`Refusal::NumberText`] that of the number's text and with [`Refusal::MarginText`] that of the margin's. The other refusals of this
+    /// version have no place.
     pub place: Option<usize>,
 }
 

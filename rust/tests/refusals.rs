@@ -150,10 +150,8 @@ fn each_number_has_one_refusal_and_words_of_its_own() {
     assert_eq!((Refusal::Other(18), Refusal::Other(19)), (Refusal::Misplaced, Refusal::TooDeep));
     assert_eq!((Refusal::Other(24), Refusal::Other(25)), (Refusal::NumberText, Refusal::MarginText));
     assert_eq!((Refusal::Other(26), Refusal::Other(27)), (Refusal::BallReach, Refusal::DecimalPlaces));
-    assert_eq!((Refusal::Other(20), Refusal::Other(22)), (Refusal::Card, Refusal::MarginNotZero));
-    assert_eq!(Refusal::Other(11), Refusal::MarginOutOfReach);
-    assert_ne!(Refusal::Other(21), Refusal::OutOfReach);
-    let numbers = [1, 2, 3, 4, 5, 6, 7, 8, 10, 11, 13, 14, 15, 16, 17, 18, 19, 20, 22, 24, 25, 26, 27];
+    assert_ne!(Refusal::Other(20), Refusal::OutOfReach);
+    let numbers = [1, 2, 3, 4, 5, 6, 7, 8, 10, 11, 13, 14, 15, 16, 17, 18, 19, 24, 25, 26, 27];
     let words = numbers.map(|number| Refusal::numbered(number).unwrap().to_string());
     for (number, said) in numbers.into_iter().zip(&words) {
         assert_eq!(Refusal::numbered(number).unwrap().number(), number);
@@ -164,7 +162,7 @@ fn each_number_has_one_refusal_and_words_of_its_own() {
 
 #[test]
 fn a_later_number_is_kept_and_told() {
-    for number in [9, 12, 21, 23, 28, 4096, u32::MAX] {
+    for number in [9, 12, 20, 23, 28, 4096, u32::MAX] {
         let refusal = Refusal::numbered(number).unwrap();
         assert!(matches!(refusal, Refusal::Other(n) if n == number));
         assert_eq!(refusal.number(), number);
@@ -194,12 +192,6 @@ fn the_words_say_where() {
     assert_eq!(number, "the number's text has a byte that cannot stand there, or ends too early (refused 24), at byte 9");
     let margin = at(Refusal::MarginText, 0).to_string();
     assert_eq!(margin, "the margin's text has a byte that cannot stand there, or ends too early (refused 25), at byte 0");
-    let card = Refused::from(Refusal::Card).to_string();
-    assert_eq!(card, "a card's number is over 2147483647, or a reading isn't inside the domain (refused 20)");
-    let doubtful = Refused::from(Refusal::MarginNotZero).to_string();
-    assert_eq!(doubtful, "a margin of the domain isn't 0 (refused 22)");
-    let margin = at(Refusal::MarginOutOfReach, 15).to_string();
-    assert_eq!(margin, "an output's margin is out of reach (refused 11), at output 15");
     let reach = Refused::from(Refusal::BallReach).to_string();
     assert_eq!(reach, "the ball's |centre| + margin is over 2147483647 units (refused 26)");
     let decimals = Refused::from(Refusal::DecimalPlaces).to_string();
@@ -236,8 +228,6 @@ fn error<T: core::error::Error + Copy + Send + Sync + 'static>() {}
 #[test]
 fn the_types_have_what_a_user_expects() {
     expected::<Formula>();
-    expected::<Card>();
-    expected::<CardLists<'_>>();
     expected::<Refusal>();
     expected::<Refused>();
     with_default::<Reading>();
