@@ -43,7 +43,7 @@ module _ (F : ℕ) (is : List Instruction) where
 pub product_slope_fits : (F x y k l : ℕ) → F ≤ top_scale → x ≤ M → y ≤ M → k ≤ M → l ≤ M → x * l + y * k + (Q F - 1) < 2 ^ 63
 product_slope_fits F x y k l f hx hy hk hl = omega (arith, pow_mono f, mul-le-mul hx hl, mul-le-mul hy hk)
 
--- so do a reciprocal's, T-as-L and w·w; what is added to round it up would not
+-- so do a reciprocal's, T·L and w·w; what is added to round it up would not
 pub reciprocal_slope_fits : (F w l : ℕ) → F ≤ top_reciprocal_scale → w ≤ M → l ≤ M → (T F * l < 2 ^ 63) × (w * w < 2 ^ 63)
 reciprocal_slope_fits F w l f hw hl = omega (arith, mul-le-mul (T_most F f) hl, mul-le-mul hw hw)
 

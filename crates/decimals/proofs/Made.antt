@@ -33,7 +33,7 @@ module _ {F : ℕ} {N : ℤ} {i P j : ℕ} (k : Readable F (decimal N i) (decima
   pub product_fits : SFits w64 (back N *ℤ to_z w64 q)
   product_fits = fits bounds (x₀ ⊗ x₁) tt
 
-  -- N-as-Q, as the machine makes it
+  -- N·Q, as the machine makes it
   product_is : back (back N *ℤ to_z w64 q) ≡ N *ℤ pos (Q F)
   product_is = held_is bounds (x₀ ⊗ x₁) tt ∙ ap (λ (n : ℕ). N *ℤ pos n) unit
 

@@ -18,7 +18,7 @@ pub record Countable (F d : ℕ) (b : Ball) : Type 0 where
 abbrev pub out_centre : ℕ → ℕ → ℤ → ℤ
 out_centre F d c = Round F (c *ℤ pos (tens d))
 
--- "what that rounding lost": c·10^d − C-as-Q
+-- "what that rounding lost": c·10^d − C·Q
 abbrev pub out_lost : ℕ → ℕ → ℤ → ℤ
 out_lost F d c = c *ℤ pos (tens d) -ℤ out_centre F d c *ℤ pos (Q F)
 

@@ -50,7 +50,7 @@ module _ (F : ℕ) {x y : Matryoshka} {a b : Ball} (p : Covers x a) (q : Covers 
       (ring (a.centre ∷ b.centre ∷ x.middle ∷ y.middle ∷ []) ((x₀ ⊖ x₁) ⊖ (x₂ ⊖ x₃)) ((x₀ ⊖ x₂) ⊖ (x₁ ⊖ x₃)) refl)
       (le_trans (size_sub (off a x) (off b y)) (add-le-add p.strays q.strays))
 
-  -- a·b − A-as-B is a·(b − B) + B·(a − A)
+  -- a·b − A·B is a·(b − B) + B·(a − A)
   product_moves : nat_abs (a.centre *ℤ b.centre -ℤ x.middle *ℤ y.middle) ≤ (nat_abs x.middle + x.stray) * y.stray + nat_abs y.middle * x.stray
   product_moves =
       size_by

@@ -22,7 +22,7 @@ use Rattle.whole.proofs.Laws.{one_mulℤ}
 use Rattle.whole.proofs.Ring.{ring, neg, lit, ◌⊕◌, ◌⊖◌, ◌⊗◌, x₀, x₁, x₂, x₃, x₄, x₅, x₆, x₇}
 use Rattle.whole.proofs.Size.{size_by, size_neg, size_add, size_mul, size_gap, size_near, size_sub_comm}
 
--- T is Q-as-Q
+-- T is Q·Q
 pub T_square : (F : ℕ) → T F ≡ Q F * Q F
 T_square F = ap (λ (n : ℕ). 2 ^ n) twice ∙ pow-add 2 F F
   where

@@ -7,16 +7,16 @@ use Rattle.card_user.proofs.with_readings.Statement.{statement}
 use Rattle.card_user.proofs.with_readings.Tie as tie
 
 -- seven lists lent to calls are more than the search looks through
-put-margins-requires : tie.Need-put_margins-requires
-put-margins-requires c κs =
+put_margins_requires : tie.Need-put_margins-requires
+put_margins_requires c κs =
     let fit = c.before.before in
     let room = fit.before.before in
     let a = room.before.before.before.before in
     summable a.args.static_margins.now a.args.slopes.now a.args.output_margins.now a.requires room.has_room.ensures (ap not fit.before.if-not-has_room.false)
     fit.card_fits.ensures (ap not c.before.if-not-card_fits.false)
 
-returns-3 : tie.Need-returns
-returns-3 c =
+returns_3 : tie.Need-returns
+returns_3 c =
     let put = c.before.before in
     let fit = put.before.before.before in
     let room = fit.before.before in
@@ -32,6 +32,6 @@ with_readings_spec =
     (λ c. search no_room)
     (λ c κs. search fittable)
     (λ c. search misfit)
-    put-margins-requires
+    put_margins_requires
     (λ c. search rules)
-    returns-3)
+    returns_3)

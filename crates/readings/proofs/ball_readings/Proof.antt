@@ -20,9 +20,9 @@ ball_readings_spec =
     (tie.spec
     invariant-loop-i
     decreases-loop-i
-    (λ c. wrong_count (inl c.if-centres-m.true))
-    (λ c. wrong_count (inr (inl c.if-margins-m.true)))
-    (λ c. none_tested (one c.before.if-centres-m.false (one c.if-margins-m.false none)))
+    (λ c. search (wrong_count, inl, inr))
+    (λ c. search (wrong_count, inl, inr))
+    (λ c. search (none_tested, one, none))
     (λ c. search rules)
     (λ c. search rules)
     (λ c. search rules)

@@ -9,8 +9,8 @@ use Rattle.rounding.proofs.Units.{unit_part, unit_bound}
 use Rattle.rounding.proofs.over_units.Statement.{statement}
 use Rattle.rounding.proofs.over_units.Tie as tie
 
-part-requires : tie.Need-part-requires
-part-requires c κs = (c.requires, omega arith, omega (arith, unit_part c.args.scale, pow_pos c.args.scale))
+part_requires : tie.Need-part-requires
+part_requires c κs = (c.requires, omega arith, omega (arith, unit_part c.args.scale, pow_pos c.args.scale))
 
 returns : tie.Need-returns
 returns c =
@@ -20,4 +20,4 @@ returns c =
     (e, omega (arith, e, mod-lt p (pow_pos F), unit_bound c.before.requires))
 
 pub over_units_spec : {M : Type 1} → statement M
-over_units_spec = tie.close (tie.spec part-requires returns)
+over_units_spec = tie.close (tie.spec part_requires returns)

@@ -13,8 +13,8 @@ use Rattle.rounding.proofs.product.Tie as tie
 mul_round : tie.Need-overflow_mul-a
 mul_round c = fits (two c.args.a c.args.b c.requires.1 c.requires.2) (x₀ ⊗ x₁) tt
 
-round-requires : tie.Need-round-requires
-round-requires c κs = (
+round_requires : tie.Need-round-requires
+round_requires c κs = (
   c.requires.0,
   subst (λ (z : ℤ). nat_abs z ≤ M * M) (sym (product_held c.args.a c.args.b c.requires.1 c.requires.2))
       (product_size c.args.a c.args.b c.requires.1 c.requires.2),
@@ -27,4 +27,4 @@ returns c =
     (c.round.ensures ∙ ap (Round s.args.scale) (product_held s.args.a s.args.b s.requires.1 s.requires.2))
 
 pub product_spec : {M : Type 1} → statement M
-product_spec = tie.close (tie.spec mul_round round-requires returns)
+product_spec = tie.close (tie.spec mul_round round_requires returns)

@@ -15,8 +15,8 @@ use Rattle.rounding.proofs.part.Reads as part_reads
 is_most : (c : lts.After-part (part_reads.Asked, part_reads.Learnt) reads.Pre reads.Post) → c.part.result ≡ Q c.before.args.scale - 1
 is_most c = omega (arith, c.part.ensures, unit_part c.before.args.scale)
 
-part-requires : tie.Need-part-requires
-part-requires c κs = (c.requires.0, omega arith, omega (arith, unit_part c.args.scale, pow_pos c.args.scale))
+part_requires : tie.Need-part-requires
+part_requires c κs = (c.requires.0, omega arith, omega (arith, unit_part c.args.scale, pow_pos c.args.scale))
 
 add_result : tie.Need-overflow_add-result
 add_result c = record { fits = omega (arith, is_most c, unit_bound c.before.requires.0, c.before.requires.1) }
@@ -29,4 +29,4 @@ returns c =
     (e, rw e (up_size a.p c.before.requires.0 c.before.requires.1))
 
 pub up_spec : {M : Type 1} → statement M
-up_spec = tie.close (tie.spec part-requires add_result (λ c. search rules) returns)
+up_spec = tie.close (tie.spec part_requires add_result (λ c. search rules) returns)

@@ -69,10 +69,10 @@ cast_result_2 c =
 returns : tie.Need-returns-then-x-lt0
 returns c = let f = below_zero c in ap (λ (z : ℤ). nat_abs z + 1) (kept f) ∙ sym f.size
 
-returns-2 : tie.Need-returns-else-x-lt0
-returns-2 c = search rules
+returns_2 : tie.Need-returns-else-x-lt0
+returns_2 c = search rules
 
 pub magnitude_spec : {M : Type 1} → statement M
 magnitude_spec =
     tie.close
-    (tie.spec sub_result cast_result add_result cast_result_2 returns returns-2)
+    (tie.spec sub_result cast_result add_result cast_result_2 returns returns_2)

@@ -13,8 +13,8 @@ use Rattle.whole.proofs.Machine.{size_back}
 use Rattle.balls.proofs.steps.keep.Statement.{statement}
 use Rattle.balls.proofs.steps.keep.Tie as tie
 
-sum-within-requires : tie.Need-sum_within-requires
-sum-within-requires c κs =
+sum_within_requires : tie.Need-sum_within-requires
+sum_within_requires c κs =
     let s = c.before.before in
     let b = s.args.b in
     let told = c.before.struct_told-1.given.0.1 in
@@ -30,8 +30,8 @@ returns c =
     let t : m.result + 0 + b.margin ≤ M = leb-true (m.result + 0 + b.margin) M (sym c.before.sum_within.ensures ∙ c.if-sum_within.true) in
     sym (reach_accepts ball_reach b (omega arith))
 
-returns-2 : tie.Need-returns-else-sum_within
-returns-2 c =
+returns_2 : tie.Need-returns-else-sum_within
+returns_2 c =
     let s = c.before.before.before.before in
     let b = s.args.b in
     let m = c.before.before.magnitude in
@@ -40,4 +40,4 @@ returns-2 c =
     sym (reach_refuses ball_reach b (omega arith))
 
 pub keep_spec : {M : Type 1} → statement M
-keep_spec = tie.close (tie.spec (λ c κs. search rules) sum-within-requires returns returns-2)
+keep_spec = tie.close (tie.spec (λ c κs. search rules) sum_within_requires returns returns_2)

@@ -14,8 +14,8 @@ use Rattle.rounding.proofs.Products.{kept, kept_size, kept_product, round_held}
 use Rattle.balls.proofs.steps.multiply.Statement.{statement}
 use Rattle.balls.proofs.steps.multiply.Tie as tie
 
-product-with-loss-requires : tie.Need-product_with_loss-rounded-requires
-product-with-loss-requires c κs =
+product_with_loss_requires : tie.Need-product_with_loss-rounded-requires
+product_with_loss_requires c κs =
     let s = c.before.before in
     (s.requires.0, kept_size s.args.x.centre (centre_size s.args.x s.requires.1), kept_size s.args.y.centre (centre_size s.args.y s.requires.2))
 
@@ -27,8 +27,8 @@ add_far_x c =
     let e : m.result ≡ nat_abs x.centre = m.ensures ∙ ap nat_abs (kept x.centre (centre_size x s.requires.1)) in
     record { fits = omega (arith, e, s.requires.1) }
 
-spread-requires : tie.Need-spread-spread-requires
-spread-requires c κs =
+spread_requires : tie.Need-spread-spread-requires
+spread_requires c κs =
     let s = c.before.before.before.before.before.before.before.before in
     let x = s.args.x in
     let y = s.args.y in
@@ -44,14 +44,14 @@ add_up c =
     let q = c.before.before.before.before.before.before.before.product_with_loss-rounded in
     record { fits = omega (arith, c.before.spread-spread.ensures.1, q.ensures.2, half_bound s.requires.0) }
 
-up-requires : tie.Need-up-margin-requires
-up-requires c κs =
+up_requires : tie.Need-up-margin-requires
+up_requires c κs =
     let s = c.before.before.before.before.before.before.before.before.before.before in
     let q = c.before.before.before.before.before.before.before.product_with_loss-rounded in
     (s.requires.0, omega (arith, c.before.spread-spread.ensures.1, q.ensures.2, half_bound s.requires.0))
 
-keep-requires : tie.Need-keep-requires
-keep-requires c κs = omega (arith, c.before.up-margin.ensures.1)
+keep_requires : tie.Need-keep-requires
+keep_requires c κs = omega (arith, c.before.up-margin.ensures.1)
 
 returns : tie.Need-returns
 returns c =
@@ -78,12 +78,12 @@ pub multiply_spec : {M : Type 1} → statement M
 multiply_spec =
     tie.close
     (tie.spec
-    product-with-loss-requires
+    product_with_loss_requires
     (λ c κs. search rules)
     (λ c κs. search rules)
     add_far_x
-    spread-requires
+    spread_requires
     add_up
-    up-requires
-    keep-requires
+    up_requires
+    keep_requires
     returns)

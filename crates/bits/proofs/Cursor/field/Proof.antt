@@ -20,8 +20,8 @@ rem_n c =
     let w = c.before.before.before.before.args.width in
     omega (arith, one_shifted w (omega arith), pow_pos w)
 
-returns-2 : tie.Need-returns
-returns-2 c =
+returns_2 : tie.Need-returns
+returns_2 c =
     let a = c.before.before.before.before.args in
     let w = a.width in
     let x = c.ahead.result in (
@@ -33,4 +33,4 @@ pub field_spec : {M : Type 1} → statement M
 field_spec =
     tie.close
     (tie.spec (λ c. search rules) (λ c. search rules) returns (λ c κs. search rules) (λ c. search rules)
-    (λ c. search rules) (λ c. search rules) (λ c. search rules) rem_n returns-2)
+    (λ c. search rules) (λ c. search rules) (λ c. search rules) rem_n returns_2)

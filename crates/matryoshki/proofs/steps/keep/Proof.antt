@@ -13,8 +13,8 @@ use Rattle.whole.proofs.Machine.{size_back}
 use Rattle.matryoshki.proofs.steps.keep.Statement.{statement}
 use Rattle.matryoshki.proofs.steps.keep.Tie as tie
 
-sum-within-requires : tie.Need-sum_within-requires
-sum-within-requires c κs =
+sum_within_requires : tie.Need-sum_within-requires
+sum_within_requires c κs =
     let s = c.before.before in
     let m = s.args.m in
     let told = c.before.struct_told-1.given.0.1 in
@@ -30,8 +30,8 @@ returns c =
     let t : n.result + m.stray + m.margin ≤ M = leb-true (n.result + m.stray + m.margin) M (sym c.before.sum_within.ensures ∙ c.if-sum_within.true) in
     sym (reach_accepts matryoshka_reach m (omega arith))
 
-returns-2 : tie.Need-returns-else-sum_within
-returns-2 c =
+returns_2 : tie.Need-returns-else-sum_within
+returns_2 c =
     let s = c.before.before.before.before in
     let m = s.args.m in
     let n = c.before.before.magnitude in
@@ -40,4 +40,4 @@ returns-2 c =
     sym (reach_refuses matryoshka_reach m (omega arith))
 
 pub keep_spec : {M : Type 1} → statement M
-keep_spec = tie.close (tie.spec (λ c κs. search rules) sum-within-requires returns returns-2)
+keep_spec = tie.close (tie.spec (λ c κs. search rules) sum_within_requires returns returns_2)

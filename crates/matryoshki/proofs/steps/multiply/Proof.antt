@@ -13,8 +13,8 @@ use Rattle.rounding.proofs.Products.{kept, kept_size, kept_product, round_held}
 use Rattle.matryoshki.proofs.steps.multiply.Statement.{statement}
 use Rattle.matryoshki.proofs.steps.multiply.Tie as tie
 
-product-requires : tie.Need-product-middle-requires
-product-requires c κs =
+product_requires : tie.Need-product-middle-requires
+product_requires c κs =
     let s = c.before.before in
     (s.requires.0, kept_size s.args.x.middle (middle_size s.args.x s.requires.1), kept_size s.args.y.middle (middle_size s.args.y s.requires.2))
 
@@ -26,8 +26,8 @@ add_far_x c =
     let e : m.result ≡ nat_abs x.middle = m.ensures ∙ ap nat_abs (kept x.middle (middle_size x s.requires.1)) in
     record { fits = omega (arith, e, s.requires.1) }
 
-spread-requires : tie.Need-spread-strays-requires
-spread-requires c κs =
+spread_requires : tie.Need-spread-strays-requires
+spread_requires c κs =
     let s = c.before.before.before.before.before.before.before.before in
     let x = s.args.x in
     let m = c.before.before.before.magnitude in
@@ -53,8 +53,8 @@ add_spread_2 c =
     let f : n.result ≡ nat_abs y.middle = n.ensures ∙ ap nat_abs (kept y.middle (middle_size y s.requires.2)) in
     record { fits = omega (arith, f, s.requires.2) }
 
-spread-requires-2 : tie.Need-spread-doubts-requires
-spread-requires-2 c κs =
+spread_requires_2 : tie.Need-spread-doubts-requires
+spread_requires_2 c κs =
     let s = c.before.before.before.before.before.before.before.before.before.before.before in
     let x = s.args.x in
     let m = c.before.before.before.before.before.before.magnitude in
@@ -67,13 +67,13 @@ spread-requires-2 c κs =
 add_up : tie.Need-overflow_add-doubts
 add_up c = record { fits = omega (arith, c.before.before.spread-doubts.ensures.1, c.rounding_doubt.ensures.1) }
 
-up-requires-2 : tie.Need-up-margin-requires
-up-requires-2 c κs =
+up_requires_2 : tie.Need-up-margin-requires
+up_requires_2 c κs =
     let s = c.before.before.before.before.before.before.before.before.before.before.before.before.before.before in
     (s.requires.0, omega (arith, c.before.before.spread-doubts.ensures.1, c.rounding_doubt.ensures.1))
 
-keep-requires : tie.Need-keep-requires
-keep-requires c κs = omega (arith, c.before.before.up-stray.ensures.1, c.up-margin.ensures.1)
+keep_requires : tie.Need-keep-requires
+keep_requires c κs = omega (arith, c.before.before.up-stray.ensures.1, c.up-margin.ensures.1)
 
 returns : tie.Need-returns
 returns c =
@@ -100,17 +100,17 @@ pub multiply_spec : {M : Type 1} → statement M
 multiply_spec =
     tie.close
     (tie.spec
-    product-requires
+    product_requires
     (λ c κs. search rules)
     add_far_x
     (λ c κs. search rules)
-    spread-requires
+    spread_requires
     add_spread
     add_spread_2
-    spread-requires-2
+    spread_requires_2
     (λ c κs. search rules)
     (λ c κs. search rules)
     add_up
-    up-requires-2
-    keep-requires
+    up_requires_2
+    keep_requires
     returns)

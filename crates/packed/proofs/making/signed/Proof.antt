@@ -23,11 +23,11 @@ returns c =
     let n = c.before.args.n in
     back_is (pos n) (omega arith) ∙ sym (twos_complement_low n c.if-n-lt2147483648.true)
 
-returns-2 : tie.Need-returns-else-n-lt2147483648
-returns-2 c =
+returns_2 : tie.Need-returns-else-n-lt2147483648
+returns_2 c =
     let n = c.before.args.n in
     let w : Within (pos n ∷ []) (2 ^ 32 ∷ []) = more (le_of_lt c.before.requires) none in
     held_is w (x₀ ⊖ lit (pos (2 ^ 32))) tt ∙ sym (twos_complement_high n c.if-n-lt2147483648.false)
 
 pub signed_spec : {M : Type 1} → statement M
-signed_spec = tie.close (tie.spec (λ c. search rules) (λ c. search rules) sub_result returns returns-2)
+signed_spec = tie.close (tie.spec (λ c. search rules) (λ c. search rules) sub_result returns returns_2)

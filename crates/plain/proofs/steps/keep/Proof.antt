@@ -24,8 +24,8 @@ returns c =
     let t : m.result + 0 + 0 ≤ M = leb-true (m.result + 0 + 0) M (sym c.before.within.ensures ∙ c.if-within.true) in
     ap value (to_z-of_z w64 x s.ranges.x) ∙ sym (reach_accepts plain_reach x (omega arith))
 
-returns-2 : tie.Need-returns-else-within
-returns-2 c =
+returns_2 : tie.Need-returns-else-within
+returns_2 c =
     let s = c.before.before.before in
     let x = s.args.x in
     let m = c.before.before.magnitude in
@@ -34,4 +34,4 @@ returns-2 c =
     sym (reach_refuses plain_reach x (omega arith))
 
 pub keep_spec : {M : Type 1} → statement M
-keep_spec = tie.close (tie.spec (λ c κs. search rules) (λ c κs. search rules) returns returns-2)
+keep_spec = tie.close (tie.spec (λ c κs. search rules) (λ c κs. search rules) returns returns_2)

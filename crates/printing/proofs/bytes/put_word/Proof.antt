@@ -16,8 +16,8 @@ decreases-loop-i w out₀ at next₀ i₀ out next i = length w - i
 loop_holds : tie.Need-loop-i-init invariant-loop-i decreases-loop-i
 loop_holds c = (search rules, wrote_nothing (search rules))
 
-put-requires : tie.Need-put-next-requires invariant-loop-i decreases-loop-i
-put-requires c κs = search wrote_room
+put_requires : tie.Need-put-next-requires invariant-loop-i decreases-loop-i
+put_requires c κs = search wrote_room
 
 loop_again : tie.Need-loop-i-preserved invariant-loop-i decreases-loop-i
 loop_again c = (search rules, search wrote_next)
@@ -26,6 +26,6 @@ pub put_word_spec : {M : Type 1} → statement M
 put_word_spec =
     tie.close
     (tie.spec invariant-loop-i decreases-loop-i
-    loop_holds (λ c. search rules) put-requires (λ c. search rules) (λ c. search rules) loop_again
+    loop_holds (λ c. search rules) put_requires (λ c. search rules) (λ c. search rules) loop_again
     (λ c. search wrote_long)
     (λ c. search wrote_whole))

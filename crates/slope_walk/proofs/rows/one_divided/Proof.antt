@@ -15,5 +15,5 @@ one_divided_spec =
     (λ c. some_near c.before.before.requires c.before.square.ensures)
     (λ c. some_near c.before.before.requires c.before.square.ensures)
     (λ c. quotient_fits c.before.before.requires c.before.square.ensures)
-    (λ c. divided_exactly c.before.before.requires c.before.square.ensures c.if-p-q-eq0.true)
-    (λ c. divided_up c.before.before.requires c.before.square.ensures c.if-p-q-eq0.false))
+    (λ c. search divided_exactly)
+    (λ c. search divided_up))
