@@ -3,7 +3,8 @@
 
 usage: python3 tools/respell.py      at the top, once, after /opt/rattle/port/port.py
 
-Names of the library, and names that Rattle makes, keep theirs. In comments and pages a name stands between backticks.
+Names of the library, and names that Rattle makes, keep theirs. In comments and pages a name stands between backticks, alone. An edit's
+names are turned in its lines 'old:' and 'new:'. It does not look for names that fall together. The crate `hex` gets another name.
 """
 
 import os
