@@ -1,7 +1,7 @@
 #!/usr/bin/env python3
 """Brings the repository's own definitions and lemmas to snake case: a name's dashes become underscores.
 
-usage: python3 tools/respell.py      at the top, once, after /opt/rattle/port/port.py
+usage: python3 tools/respell.py      at the top, once, after the kit's port/port.py
 
 Names of the library, and names that Rattle makes, keep theirs. In comments and pages a name stands between backticks, alone. An edit's
 names are turned in its lines 'old:' and 'new:'. It does not look for names that fall together. The crate `hex` gets another name.
