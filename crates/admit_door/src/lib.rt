@@ -33,7 +33,7 @@ pub fn margins_admit(
         (matryoshka_lists output_middles.new output_strays.new output_margins.new))
         result }
 {
-    let r = admit_run::run(
+    replied(admit_run::run(
         bytes,
         middles,
         strays,
@@ -44,6 +44,5 @@ pub fn margins_admit(
         output_middles,
         output_strays,
         output_margins,
-    );
-    replied(r)
+    ))
 }

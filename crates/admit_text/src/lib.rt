@@ -1,4 +1,5 @@
 // The admit job, told.
+// The run, the first line and the lines of outputs are shared; what is here is this job's own lists.
 #![tactic(auto)]
 
 ghost use Rattle.std.specs.Prelude.{◌≤◌, length};
@@ -25,12 +26,12 @@ pub fn answer(
         (domain middles.now strays.now margins.now))
         0 out.old out.new result }
 {
-    let mut work_middles: [i64; 528] = [0; 528];
-    let mut work_strays: [u64; 528] = [0; 528];
-    let mut work_margins: [u64; 528] = [0; 528];
-    let mut output_middles: [i64; 16] = [0; 16];
-    let mut output_strays: [u64; 16] = [0; 16];
-    let mut output_margins: [u64; 16] = [0; 16];
+    let mut work_middles = [0; 528];
+    let mut work_strays = [0; 528];
+    let mut work_margins = [0; 528];
+    let mut output_middles = [0; 16];
+    let mut output_strays = [0; 16];
+    let mut output_margins = [0; 16];
     let reply = run(
         formula,
         middles,

@@ -8,15 +8,16 @@ use lib.ListN.{length, get_or, length-map}
 use lib.Seq.{take_all}
 use Rattle.lists.specs.Over.{over, least}
 use Rattle.lists.proofs.Over.{over_start}
-use Rattle.refusals.specs.declared.Reply.TheVariants.{Done}
 use Rattle.lists.specs.Joined.{Rel}
+use Rattle.std.specs.declared.result.Result.TheVariants.{Ok}
 use Rattle.rules.specs.declared.Ball.{Ball}
 use Rattle.rules.specs.Values.{Contains}
 use Rattle.rules.specs.Lists.{centres_of, margins_of, middles_of, strays_of, static_margins_of}
 use Rattle.formulas.specs.Readings.{BallReadings}
 use Rattle.formulas.specs.Kinds.{Kind, ball_kind, matryoshka_kind}
 use Rattle.formulas.specs.Job.{job, done, lent, Kept}
-use Rattle.formulas.proofs.Lawful.{Lawful, ball_lawful}
+use Rattle.formulas.specs.Lawful.{Lawful}
+use Rattle.formulas.proofs.Lawful.{ball_lawful}
 use Rattle.formulas.proofs.Jobs.{Starts, starts_done, made_many, does, kept_as}
 use Rattle.packed.specs.Meaning.{formula}
 use Rattle.packed.proofs.WellFormed.{accepted_well_formed}
@@ -53,7 +54,7 @@ exact_matryoshki =
 
 pub exact_kept : {K : Kind} {lists : List K.Value → K.Lists} → Lawful K → Exactly K lists → (bytes : List ℕ) (given : K.Readings) (work output : ℕ) {vs os : List K.Value}
     → job K (formula bytes) given work output ≡ done vs os
-    → Kept K (formula bytes) given (lent K (lists vs) (lists os)) (lent K (lists vs) (lists os)) (Done (length os))
+    → Kept K (formula bytes) given (lent K (lists vs) (lists os)) (lent K (lists vs) (lists os)) (Ok (length os))
 exact_kept {K} {lists} law x bytes given work output {vs} {os} e =
     let d = does K (formula bytes) given work output e in
     let well = accepted_well_formed bytes d.started.means in
@@ -65,7 +66,7 @@ exact_kept {K} {lists} law x bytes given work output {vs} {os} e =
       work_room = omega (arith, x.room_is vs, made_many law (formula bytes) given work output d.started well d.finishes);
       output_room = omega (arith, x.room_is os, many, well.results_long);
     } in
-    kept_as law (Done (length os))
+    kept_as law (Ok (length os))
     (starts_done K (formula bytes) given (K.room (lists vs)) (K.room (lists os)) p d.finishes ∙ ap (done vs) (sym d.picks))
     refl (x.holds_itself vs) (x.holds_itself os)
 

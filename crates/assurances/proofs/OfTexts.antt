@@ -5,8 +5,8 @@ use Prim.Native.Nat.{ℕ}
 use lib.IntN.{ℤ, nat_abs}
 use lib.ListN.{length, take, get_or}
 use Rattle.lists.specs.Joined.{Rel, none, one}
-use Rattle.refusals.specs.declared.Reply.{Reply}
-use Rattle.refusals.specs.declared.Reply.TheVariants.{Done}
+use Rattle.std.specs.declared.result.Result.TheVariants.{Ok}
+use Rattle.refusals.specs.Said.{Reply}
 use Rattle.refusals.specs.Answer.{value}
 use Rattle.refusals.proofs.Answers.{same_value}
 use Rattle.rules.specs.declared.Ball.{Ball}
@@ -53,13 +53,13 @@ around_text {F} {given = given} {left} h f e inside =
     }
 
 -- demand 2: a text packed, its bytes run as balls
-pub honest_text : {F m : ℤ} {s old new : List ℕ} {n : ℕ} → PacksText F m s old new (Done n)
+pub honest_text : {F m : ℤ} {s old new : List ℕ} {n : ℕ} → PacksText F m s old new (Ok n)
     → {given : BallReadings} {left : Lent ball_kind} {k : ℕ} → Honest (take n new) given left k
     → AroundText F m s given (ball_kind.front k left.output)
 honest_text p d = around_text (text_held p) d.meant d.means d.outputs_inside
 
 -- demand 3: a text packed, its bytes admitted and run plainly on readings within the domain
-pub admitted_text : {F m : ℤ} {s old new : List ℕ} {n : ℕ} → PacksText F m s old new (Done n)
+pub admitted_text : {F m : ℤ} {s old new : List ℕ} {n : ℕ} → PacksText F m s old new (Ok n)
     → {d : Domain} {left : Lent matryoshka_kind} {k : ℕ} (a : Admitted (take n new) d left k) {g : BallReadings} → InDomain d g
     → (before : Lent plain_kind) {after : Lent plain_kind} (r : Reply) → LongEnough plain_kind a.meant.header before
     → Kept plain_kind (formula (take n new)) g.centres before after r

@@ -2,7 +2,7 @@
 use mathlib.Core.Path.{◌≡◌, refl, sym, ◌∙◌, ap, ap₂}
 use mathlib.Core.Bool.{Bool, true, false, cond}
 use mathlib.Core.List.{List, [], ◌∷◌, ◌++◌}
-use mathlib.Core.Option.{Option, none, some}
+use Rattle.std.proofs.Common.{Option, Some, None}
 use Prim.Native.Nat.{ℕ, ◌≤◌}
 use native.Mathlib.Omega.{arith}
 use borrow.Author.Tests.{le-leb, leb-true}
@@ -12,12 +12,13 @@ use lib.ListN.{length, get_or, length-map}
 use Rattle.lists.specs.All.{All}
 use Rattle.formulas.specs.Kinds.{Kind}
 use Rattle.formulas.specs.Job.{job, Result, refused_first, stopped_at, done}
-use Rattle.formulas.proofs.Lawful.{Lawful}
+use Rattle.formulas.specs.Lawful.{Lawful}
 use Rattle.formulas.proofs.Jobs.{does}
 use Rattle.formulas.proofs.Legal.{outputs_legal}
 use Rattle.packed.specs.Meaning.{formula}
 use Rattle.packed.proofs.WellFormed.{accepted_well_formed}
-use Rattle.parsing.specs.Word.{Job, job_named, numbers_on_a_line}
+use Rattle.parsing.specs.declared.word.Job.{Job}
+use Rattle.parsing.specs.Word.{job_named, numbers_on_a_line}
 use Rattle.parsing.specs.Lines.{lines}
 use Rattle.hex_bytes.specs.Hex.{hex}
 use Rattle.rows.specs.Rows.{each_row}
@@ -95,11 +96,11 @@ module _ (s : List ℕ) (n : ℕ) (rest : List ℕ) where
   not_refused : twelve_text ≡ ok_text n ++ rest → ⊥
   not_refused e = not_ok 12 0 n rest e
 
-  module _ (short : length s ≤ longest_input) (f w : List ℕ) (ls : List (List ℕ)) (has : lines s ≡ some (f ∷ w ∷ ls)) where
-    by_rows : (bytes : List ℕ) (j : Job) → hex f ≡ some bytes → job_named w ≡ some j → (r : Option (List (List ℤ)))
+  module _ (short : length s ≤ longest_input) (f w : List ℕ) (ls : List (List ℕ)) (has : lines s ≡ Some (f ∷ w ∷ ls)) where
+    by_rows : (bytes : List ℕ) (j : Job) → hex f ≡ Some bytes → job_named w ≡ Some j → (r : Option (List (List ℤ)))
         → each_row (numbers_on_a_line j) ls ≡ r → if_rows j bytes r ≡ ok_text n ++ rest → (j : Job) × AsksFor s j
-    by_rows bytes j h v none u e = absurd (not_refused e)
-    by_rows bytes j h v (some rows) u e = (
+    by_rows bytes j h v None u e = absurd (not_refused e)
+    by_rows bytes j h v (Some rows) u e = (
       j,
       record {
         bytes = bytes;
@@ -109,15 +110,15 @@ module _ (s : List ℕ) (n : ℕ) (rest : List ℕ) where
     )
 
     by_job : (b : Option (List ℕ)) → hex f ≡ b → (o : Option Job) → job_named w ≡ o → if_job b o ls ≡ ok_text n ++ rest → (j : Job) × AsksFor s j
-    by_job none h o v e = absurd (not_refused e)
-    by_job (some bytes) h none v e = absurd (not_refused e)
-    by_job (some bytes) h (some j) v e = by_rows bytes j h v (each_row (numbers_on_a_line j) ls) refl e
+    by_job None h o v e = absurd (not_refused e)
+    by_job (Some bytes) h None v e = absurd (not_refused e)
+    by_job (Some bytes) h (Some j) v e = by_rows bytes j h v (each_row (numbers_on_a_line j) ls) refl e
 
   by_lines : length s ≤ longest_input → (o : Option (List (List ℕ))) → lines s ≡ o → if_lines o ≡ ok_text n ++ rest → (j : Job) × AsksFor s j
-  by_lines l none u e = absurd (not_refused e)
-  by_lines l (some []) u e = absurd (not_refused e)
-  by_lines l (some (f ∷ [])) u e = absurd (not_refused e)
-  by_lines l (some (f ∷ w ∷ ls)) u e = by_job l f w ls u (hex f) refl (job_named w) refl e
+  by_lines l None u e = absurd (not_refused e)
+  by_lines l (Some []) u e = absurd (not_refused e)
+  by_lines l (Some (f ∷ [])) u e = absurd (not_refused e)
+  by_lines l (Some (f ∷ w ∷ ls)) u e = by_job l f w ls u (hex f) refl (job_named w) refl e
 
   pub told_asks : program_text s ≡ ok_text n ++ rest → (j : Job) × AsksFor s j
   unfolding program_text

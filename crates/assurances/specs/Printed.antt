@@ -1,6 +1,5 @@
 -- The demands 2 and 3 about what is printed: what an input asks for, and what the printed numbers assure.
-use Rattle.std.specs.Prelude.{◌≡◌, List, ◌∷◌, ◌++◌, ℕ, ◌≤◌, ℤ, length}
-use Rattle.std.proofs.Math.Option.{some}
+use Rattle.std.specs.Prelude.{◌≡◌, List, ◌∷◌, ◌++◌, ℕ, ◌≤◌, ℤ, length, Some}
 use Rattle.lists.specs.Joined.{Rel}
 use Rattle.refusals.specs.Answer.{value}
 use Rattle.rules.specs.declared.Ball.{Ball}
@@ -15,7 +14,8 @@ use Rattle.formulas.specs.Job.{lent}
 use Rattle.formulas.specs.ExactRun.{ExactRun}
 use Rattle.packed.specs.Meaning.{formula}
 use Rattle.parsing.specs.Lines.{lines}
-use Rattle.parsing.specs.Word.{Job, job_named, numbers_on_a_line}
+use Rattle.parsing.specs.declared.word.Job.{Job}
+use Rattle.parsing.specs.Word.{job_named, numbers_on_a_line}
 use Rattle.hex_bytes.specs.Hex.{hex}
 use Rattle.rows.specs.Rows.{column, each_row}
 use Rattle.listing.specs.OutputLines.{listed}
@@ -28,10 +28,10 @@ pub record Asks (s : List ℕ) (job : Job) (bytes : List ℕ) (rows : List (List
   pub formula_line : List ℕ
   pub word : List ℕ
   pub reading_lines : List (List ℕ)
-  pub has_lines : lines s ≡ some (formula_line ∷ word ∷ reading_lines)
-  pub in_hex : hex formula_line ≡ some bytes
-  pub names_job : job_named word ≡ some job
-  pub has_rows : each_row (numbers_on_a_line job) reading_lines ≡ some rows
+  pub has_lines : lines s ≡ Some (formula_line ∷ word ∷ reading_lines)
+  pub in_hex : hex formula_line ≡ Some bytes
+  pub names_job : job_named word ≡ Some job
+  pub has_rows : each_row (numbers_on_a_line job) reading_lines ≡ Some rows
 
 -- an input that asks for this job
 pub record AsksFor (s : List ℕ) (job : Job) : Type 0 where

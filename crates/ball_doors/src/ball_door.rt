@@ -24,7 +24,7 @@ pub fn margins_ball(
         (lent ball_kind (ball_lists work_centres.new work_margins.new)
         (ball_lists output_centres.new output_margins.new)) result }
 {
-    let r = ball_run::run(
+    replied(ball_run::run(
         bytes,
         centres,
         margins,
@@ -32,6 +32,5 @@ pub fn margins_ball(
         work_margins,
         output_centres,
         output_margins,
-    );
-    replied(r)
+    ))
 }

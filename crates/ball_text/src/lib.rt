@@ -1,4 +1,5 @@
 // The ball job, told.
+// The run, the first line and the lines of outputs are shared; what is here is this job's own lists.
 #![tactic(auto)]
 
 ghost use Rattle.std.specs.Prelude.{◌≤◌, length};
@@ -18,10 +19,10 @@ pub fn answer(formula: &[u8], centres: &[i64], margins: &[i64], out: &mut [u8]) 
     ensures { Wrote (kind_text ball_kind ball_fields formula.now
         (ball_readings centres.now margins.now)) 0 out.old out.new result }
 {
-    let mut work_centres: [i64; 528] = [0; 528];
-    let mut work_margins: [u64; 528] = [0; 528];
-    let mut output_centres: [i64; 16] = [0; 16];
-    let mut output_margins: [u64; 16] = [0; 16];
+    let mut work_centres = [0; 528];
+    let mut work_margins = [0; 528];
+    let mut output_centres = [0; 16];
+    let mut output_margins = [0; 16];
     let reply = run(
         formula,
         centres,

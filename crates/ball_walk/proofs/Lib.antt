@@ -1,2 +1,2 @@
--- The laws of the walk on balls.
-pub mod Turns
+-- The laws of balls in lent lists.
+pub mod Lent

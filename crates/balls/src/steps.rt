@@ -8,22 +8,22 @@ ghost use Rattle.rules.specs.Steps.{AtEveryScale, within_reach, ball_answer};
 ghost use Rattle.rules.specs.Balls.{ball_rule};
 
 use refusals::Refusal;
-use rules::{Ball, BallStep};
+use rules::Ball;
 
 // b, or refusal 11 where its reach is over the limit.
-fn keep(b: Ball) -> BallStep
+fn keep(b: Ball) -> Result<Ball, Refusal>
     requires { b.margin < 2 ^ 63 }
     ensures { ball_answer result ≡ within_reach ball_reach b }
 {
     let margin = b.margin;
     if rounding::sum_within(whole::magnitude(b.centre), 0, margin) {
-        BallStep::Value(b)
+        Ok(b)
     } else {
-        BallStep::Refused(Refusal::OutOfReach)
+        Err(Refusal::OutOfReach)
     }
 }
 
-pub fn constant(c: i64) -> BallStep
+pub fn constant(c: i64) -> Result<Ball, Refusal>
     ensures { AtEveryScale ball_rule (Operation.constant c) (ball_answer result) }
 {
     keep(Ball {
@@ -32,7 +32,7 @@ pub fn constant(c: i64) -> BallStep
     })
 }
 
-pub fn negate(x: Ball) -> BallStep
+pub fn negate(x: Ball) -> Result<Ball, Refusal>
     requires { IsBall x }
     ensures { AtEveryScale ball_rule (Operation.negate x) (ball_answer result) }
 {
@@ -42,7 +42,7 @@ pub fn negate(x: Ball) -> BallStep
     })
 }
 
-pub fn add(x: Ball, y: Ball) -> BallStep
+pub fn add(x: Ball, y: Ball) -> Result<Ball, Refusal>
     requires { IsBall x × IsBall y }
     ensures { AtEveryScale ball_rule (Operation.add x y) (ball_answer result) }
 {
@@ -52,7 +52,7 @@ pub fn add(x: Ball, y: Ball) -> BallStep
     })
 }
 
-pub fn subtract(x: Ball, y: Ball) -> BallStep
+pub fn subtract(x: Ball, y: Ball) -> Result<Ball, Refusal>
     requires { IsBall x × IsBall y }
     ensures { AtEveryScale ball_rule (Operation.subtract x y) (ball_answer result) }
 {
@@ -62,7 +62,7 @@ pub fn subtract(x: Ball, y: Ball) -> BallStep
     })
 }
 
-pub fn multiply(scale: u32, x: Ball, y: Ball) -> BallStep
+pub fn multiply(scale: u32, x: Ball, y: Ball) -> Result<Ball, Refusal>
     requires { (scale ≤ top_scale) × IsBall x × IsBall y }
     ensures { ball_answer result ≡ ball_rule scale (Operation.multiply x y) }
 {
@@ -78,7 +78,7 @@ pub fn multiply(scale: u32, x: Ball, y: Ball) -> BallStep
     })
 }
 
-pub fn coefficient(c: i64, r: u64) -> BallStep
+pub fn coefficient(c: i64, r: u64) -> Result<Ball, Refusal>
     requires { r < 2 ^ 63 }
     ensures { AtEveryScale ball_rule (Operation.coefficient c r) (ball_answer result) }
 {
@@ -89,7 +89,7 @@ pub fn coefficient(c: i64, r: u64) -> BallStep
 }
 
 // Or refusal 17 where the ball holds 0.
-pub fn reciprocal(scale: u32, x: Ball) -> BallStep
+pub fn reciprocal(scale: u32, x: Ball) -> Result<Ball, Refusal>
     requires { (scale ≤ top_reciprocal_scale) × IsBall x }
     ensures { ball_answer result ≡ ball_rule scale (Operation.reciprocal x) }
 {
@@ -102,5 +102,5 @@ pub fn reciprocal(scale: u32, x: Ball) -> BallStep
             margin: spread + inverse.missed,
         });
     }
-    BallStep::Refused(Refusal::MayBeZero)
+    Err(Refusal::MayBeZero)
 }

@@ -1,10 +1,10 @@
 -- What the code's answer to taking a field stands for, over the bytes that it reads.
 use Rattle.std.specs.Prelude.{◌≡◌, List, ℕ, ◌+◌, ◌-◌, ◌*◌, ◌/◌, ◌%◌, ◌^◌, ◌≤◌, ◌<◌, length, take, drop}
+use Rattle.std.specs.declared.option.Option.{Option}
+use Rattle.std.specs.declared.option.Option.TheVariants.{None, Some}
 use Rattle.refusals.specs.declared.Refusal.TheVariants as refusal
 use Rattle.refusals.specs.Answer.{Answer, value, refuse}
 use Rattle.bits.specs.declared.Cursor.{Cursor}
-use Rattle.bits.specs.declared.Field.{Field}
-use Rattle.bits.specs.declared.Field.TheVariants.{Got, Ended}
 use Rattle.bits.specs.Bits.{bits, number, window_number}
 use Rattle.bits.specs.Reader.{Read}
 
@@ -12,14 +12,18 @@ use Rattle.bits.specs.Reader.{Read}
 abbrev pub before : List ℕ → Cursor → List ℕ
 before s c = drop c.at (bits s)
 
+-- a field and the cursor past it, or the bytes ended inside it
+abbrev pub Field : Type 0
+Field = Option (ℕ × Cursor)
+
 abbrev pub field_answer : List ℕ → Field → Answer (Read ℕ)
-field_answer s (Got n c) = value (record { got = n; left = before s c })
-field_answer s Ended = refuse refusal.Ended
+field_answer s (Some (n, c)) = value (record { got = n; left = before s c })
+field_answer s None = refuse refusal.Ended
 
 -- where a cursor stands after a field of w bits, which is below 2^w
 abbrev pub Advanced : Cursor → ℕ → Field → Type 0
-Advanced c w (Got n d) = (d.at ≡ c.at + w) × (n < 2 ^ w)
-Advanced c w Ended = Unit {0}
+Advanced c w (Some (n, d)) = (d.at ≡ c.at + w) × (n < 2 ^ w)
+Advanced c w None = Unit {0}
 
 -- the eight bytes from the one that a cursor stands in, moved up until its bit is on top; past the end they are 0
 abbrev pub ahead_of : List ℕ → Cursor → ℕ

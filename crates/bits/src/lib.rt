@@ -12,13 +12,6 @@ pub struct Cursor {
     pub at: usize,
 }
 
-// A field and the cursor past it, or the bytes ended inside it.
-#[derive(Clone, Copy)]
-pub enum Field {
-    Got(u64, Cursor),
-    Ended,
-}
-
 // Eight bytes as one number, the first on top. A compiler sees one load in a tree of sums, and none in a long chain.
 fn joined(a: u64, b: u64, c: u64, d: u64, e: u64, f: u64, g: u64, h: u64) -> u64
     requires { (a < 256) × (b < 256) × (c < 256) × (d < 256)
@@ -42,10 +35,8 @@ fn wide(b: u8) -> u64
 fn gathered(s: &[u8], i: usize) -> u64
     ensures { IsWindow s.now i result }
 {
-    let mut v: u64 = 0;
-    let mut k = s.len();
-    while i < k {
-        k = k - 1;
+    let mut v = 0;
+    for k in (i..s.len()).rev() {
         v = wide(s[k]) * 0x100_0000_0000_0000 + v / 256;
     }
     v
@@ -113,17 +104,17 @@ pub fn ahead(s: &[u8], c: Cursor) -> u64
 }
 
 impl Cursor {
-    // The field of so many bits from here, with the cursor past it.
-    pub fn field(self, s: &[u8], width: u32) -> Field
+    // The field of so many bits from here, with the cursor past it, unless the bytes end inside it.
+    pub fn field(self, s: &[u8], width: u32) -> Option<(u64, Cursor)>
         requires { (1 ≤ width) × (width ≤ 32) × (self.at ≤ 2 ^ 32) }
         ensures { (field_answer s.now result ≡ field width (before s.now self))
             × Advanced self width result }
     {
         let end = self.at + width as usize;
         if s.len() < (end + 7) / 8 {
-            return Field::Ended;
+            return None;
         }
         let n = (ahead(s, self) >> (64 - width)) % (1u64 << width);
-        Field::Got(n, Cursor { at: end })
+        Some((n, Cursor { at: end }))
     }
 }

@@ -5,12 +5,8 @@ use Prim.Native.Nat.{ℕ, ◌≤◌, zero-le}
 use native.Mathlib.Omega.{arith}
 use lib.IntN.{ℤ, nat_abs}
 use lib.ListN.{length, take}
-use mir.Syntax.{w64}
-use mir.Val.{SFits}
-use mir.ValLaws.{to_z-of_z}
-use Rattle.whole.proofs.Machine.{back}
-use Rattle.refusals.specs.declared.Reply.{Reply}
-use Rattle.refusals.specs.declared.Reply.TheVariants.{Done, Refused}
+use Rattle.std.specs.declared.result.Result.TheVariants.{Ok, Err}
+use Rattle.refusals.specs.Said.{Reply}
 use Rattle.refusals.specs.Answer.{value, refused}
 use Rattle.refusals.specs.Places.{Placed}
 use Rattle.refusals.specs.Said.{reply_said}
@@ -30,7 +26,6 @@ use Rattle.cards.specs.Lent.{CardLists, card_said, lent_card, CardKept, use_said
 use Rattle.cards.proofs.Using.{use_sums_long}
 use Rattle.cards.proofs.Honest.{card_made_by, passed_of, card_fits, used_by}
 use Rattle.cards.proofs.Lent.{lent_honest}
-use Rattle.card_user.specs.Uses.{brought}
 use Rattle.card_user.proofs.OneUse.{use_one_outcome}
 use Rattle.card_maker.proofs.OneCard.{card_one_outcome}
 use Rattle.card_door.specs.CardDoors.{CardDoor, UseDoor}
@@ -72,25 +67,6 @@ use_few q {u} {old} k = subst (λ t. outputs_told t ≤ 16) (sym k.says) (by_ans
     by_answer (value rs) h = h rs refl
     by_answer (refused w) h = zero-le
 
--- ---- what is told
-
-pub card_told : {s : List ℕ} {g : Domain} {old new : CardLists} {q : Reply} {r : MarginsReply} → CardKept (formula s) g old new q
-    → r ≡ margins_reply (reply_said q) → CardDoor s g old new r
-card_told {q = q} k e = record { reply = q; job = k; tells = e }
-
--- the machine reads the three numbers back
-pub use_told : {F m n : ℤ} {d b : BallReadings} {E L old new : List ℕ} {q : Reply} {r : MarginsReply} → SFits w64 F → SFits w64 m → SFits w64 n
-    → UseKept (brought (back F) (back m) (back n) d E L b) old new q → r ≡ margins_reply (reply_said q) → UseDoor (brought F m n d E L b) old new r
-use_told {F} {m} {n} {d} {b} {E} {L} {old} {new} {q} f g h k e =
-    record {
-      reply = q;
-      job =
-          subst (λ x. UseKept (brought x m n d E L b) old new q) (to_z-of_z w64 F f)
-          (subst (λ x. UseKept (brought (back F) x n d E L b) old new q) (to_z-of_z w64 m g)
-          (subst (λ x. UseKept (brought (back F) (back m) x d E L b) old new q) (to_z-of_z w64 n h) k));
-      tells = e;
-    }
-
 -- ---- two outcomes that a door allows are equal
 
 pub card_door_one_outcome : {s : List ℕ} {g : Domain} {old new₁ new₂ : CardLists} {r t : MarginsReply} → CardDoor s g old new₁ r → CardDoor s g old new₂ t
@@ -105,9 +81,9 @@ use_door_one_outcome a b =
 -- ---- what a card assures
 
 -- a reply without a refusal is an answer
-answered_so : (q : Reply) {r : MarginsReply} → r ≡ margins_reply (reply_said q) → r.refusal ≡ 0 → (n : ℕ) × (q ≡ Done n)
-answered_so (Done n) e z = (n, refl)
-answered_so (Refused why k) e z = absurd (never_zero why (sym (ap (λ (m : MarginsReply). m.refusal) e) ∙ z))
+answered_so : (q : Reply) {r : MarginsReply} → r ≡ margins_reply (reply_said q) → r.refusal ≡ 0 → (n : ℕ) × (q ≡ Ok n)
+answered_so (Ok n) e z = (n, refl)
+answered_so (Err why) e z = absurd (never_zero why.why (sym (ap (λ (m : MarginsReply). m.refusal) e) ∙ z))
 
 -- whatever `margins_make_card` and then `margins_use_card` leave with refusal 0: the margins hold every exact result around the bare answer
 pub honest_card : {s : List ℕ} {g : Domain} {old new : CardLists} {r : MarginsReply} {f : Formula} → CardDoor s g old new r → r.refusal ≡ 0

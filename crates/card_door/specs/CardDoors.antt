@@ -1,6 +1,6 @@
 -- What C sees of making a card and of using it: the job's reply as a struct, and every place of the lent lists.
 use Rattle.std.specs.Prelude.{◌≡◌, List, ℕ}
-use Rattle.refusals.specs.declared.Reply.{Reply}
+use Rattle.refusals.specs.Said.{Reply}
 use Rattle.refusals.specs.Said.{reply_said}
 use Rattle.formulas.specs.Readings.{Domain}
 use Rattle.packed.specs.Meaning.{formula}

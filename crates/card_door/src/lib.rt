@@ -23,8 +23,7 @@ pub fn margins_make_card(
         (card_lists static_margins.old slopes.old)
         (card_lists static_margins.new slopes.new) result }
 {
-    let r = make_card(bytes, middles, strays, margins, static_margins, slopes);
-    replied(r)
+    replied(make_card(bytes, middles, strays, margins, static_margins, slopes))
 }
 
 pub fn margins_use_card(
@@ -44,7 +43,7 @@ pub fn margins_use_card(
         (ball_readings centres.now margins.now))
         output_margins.old output_margins.new result }
 {
-    let r = use_card(
+    replied(use_card(
         scale,
         inputs,
         outputs,
@@ -55,6 +54,5 @@ pub fn margins_use_card(
         centres,
         margins,
         output_margins,
-    );
-    replied(r)
+    ))
 }

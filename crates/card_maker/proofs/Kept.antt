@@ -1,22 +1,20 @@
 -- The whole job in the code's shape: refused by the check or by a test, or a card as it was made. Assumes nothing.
-use mathlib.Core.Path.{◌≡◌, refl, sym, ◌∙◌, ap}
-use mathlib.Core.Bool.{Bool, true, false}
+use mathlib.Core.Path.{◌≡◌, sym, ◌∙◌, ap}
 use mathlib.Core.List.{List}
-use Prim.Native.Nat.{ℕ, ◌*◌, ◌≤◌}
-use borrow.Author.Tests.{leb-true}
-use lib.Dec.{leb}
+use Prim.Native.Nat.{ℕ, ◌≤◌}
 use lib.ListN.{length}
-use Rattle.whole.proofs.Cases.{by_case, both}
+use Rattle.std.specs.declared.result.Result.TheVariants.{Ok, Err}
+use Rattle.refusals.specs.Places.{because}
+use Rattle.refusals.specs.declared.Refused.{Refused}
+use Rattle.whole.proofs.Cases.{by_case}
 use Rattle.lists.specs.Over.{over}
 use Rattle.refusals.specs.declared.Refusal.{Refusal}
 use Rattle.refusals.specs.declared.Refusal.TheVariants as refusal
-use Rattle.refusals.specs.declared.Reply.{Reply}
-use Rattle.refusals.specs.declared.Reply.TheVariants as reply
-use Rattle.refusals.specs.declared.Verdict.{Verdict}
-use Rattle.refusals.specs.declared.Verdict.TheVariants as verdict
+use Rattle.refusals.specs.Said.{Reply}
+use Rattle.refusals.specs.Places.{Verdict}
 use Rattle.refusals.specs.Answer.{value, refused, then}
 use Rattle.refusals.specs.Places.{Where, Placed, elsewhere, refuse_at, verdict_says}
-use Rattle.refusals.proofs.Answers.{no_value, then_value, then_refused, first_of, refused_same}
+use Rattle.refusals.proofs.Answers.{then_value, then_refused, first_of, refused_same}
 use Rattle.rules.specs.declared.Matryoshka.{Matryoshka}
 use Rattle.formulas.specs.declared.Header.{Header}
 use Rattle.formulas.specs.Readings.{Domain}
@@ -25,13 +23,12 @@ use Rattle.formulas.proofs.Fitting.{let_in}
 use Rattle.packed.specs.Meaning.{formula, meant, checked}
 use Rattle.packed.proofs.Accepted.{refused_unread}
 use Rattle.packed.proofs.Formed.{Formed, formed, limits_of}
-use Rattle.checking.specs.declared.Checked.{Checked}
-use Rattle.checking.specs.declared.Checked.TheVariants.{Formula, Refused}
+use Rattle.checking.specs.CheckAnswers.{Checked}
 use Rattle.checking.specs.CheckAnswers.{check_answer}
 use Rattle.cards.specs.Card.{Card}
 use Rattle.cards.specs.Making.{unless, all_still, card_room, card_made, card_job}
 use Rattle.cards.specs.Lent.{CardLists, static_in, slopes_in, card_said, lent_card, CardKept}
-use Rattle.card_maker.specs.Parts.{Tests, Startable, Makes, card_lists}
+use Rattle.card_maker.specs.Parts.{Tests, Makes, card_lists}
 
 -- what is told, and what stands in the lists, of a job that gave this
 kept_of : (s : List ℕ) (g : Domain) {old new : CardLists} {r : Reply} → lent_card (formula s) g old ≡ card_made (meant s) (matryoshka_kind.values g)
@@ -44,7 +41,7 @@ kept_of s g {old} e m =
     }
 
 kept_refused : (s : List ℕ) (g : Domain) (old : CardLists) {q : Refusal} {k : ℕ} → lent_card (formula s) g old ≡ refuse_at q k
-    → CardKept (formula s) g old old (reply.Refused q k)
+    → CardKept (formula s) g old old (Err (because q k))
 kept_refused s g old e =
     record {
       says = sym (ap card_said e);
@@ -64,10 +61,6 @@ chain_refused {B = B} {C} {D} {w} (value x) b c d e = second (b x) (c x) e
     second (value v) z u = third z u
     second (refused v) z u = ap refused (refused_same u)
 chain_refused (refused x) b c d e = ap refused (refused_same e)
-
-unless_true : (r : Refusal) (t : Bool) → unless r t ≡ value tt → t ≡ true
-unless_true r true e = refl
-unless_true r false e = absurd (no_value e)
 
 -- the job, with the header in its place
 module _ (s : List ℕ) (g : Domain) (er lr : ℕ) where
@@ -89,7 +82,7 @@ record PassedTests (h : Header) (g : Domain) (er lr : ℕ) : Type 0 where
   rests : unless refusal.MarginNotZero (all_still (matryoshka_kind.values g)) ≡ value tt
   roomy : unless refusal.NoRoom (card_room h er lr) ≡ value tt
 
-passed_tests : {h : Header} {g : Domain} {er lr : ℕ} {v : Verdict} → Tests h g er lr v → v ≡ verdict.Passed → PassedTests h g er lr
+passed_tests : {h : Header} {g : Domain} {er lr : ℕ} {v : Verdict} → Tests h g er lr v → v ≡ Ok tt → PassedTests h g er lr
 passed_tests {h} {g} {er} {lr} t e =
     let a = first_of (tested matryoshka_kind h.inputs g) _ (by_case verdict_says t.says e) in
     let b = first_of (unless refusal.MarginNotZero (all_still a.first)) _ a.then_was in
@@ -101,11 +94,11 @@ passed_tests {h} {g} {er} {lr} t e =
     }
 
 module _ (s : List ℕ) {c : Checked} (checks : check_answer c ≡ checked s) where
-  pub make_unread : {g : Domain} {E L : List ℕ} {q : Refusal} → c ≡ Refused q → CardKept (formula s) g (card_lists E L) (card_lists E L) (reply.Refused q 0)
+  pub make_unread : {g : Domain} {E L : List ℕ} {q : Refusal} → c ≡ Err q → CardKept (formula s) g (card_lists E L) (card_lists E L) (Err (because q 0))
   unfolding card_job
   make_unread {g} {E} {L} t = kept_refused s g (card_lists E L) (then_refused _ (ap elsewhere (refused_unread s (by_case check_answer checks t))))
 
-  module _ {h : Header} (is : c ≡ Formula h) where
+  module _ {h : Header} (is : c ≡ Ok h) where
     there : Formed s h
     there = formed s (by_case check_answer checks is)
 
@@ -113,24 +106,14 @@ module _ (s : List ℕ) {c : Checked} (checks : check_answer c ≡ checked s) wh
     make_testable = ((limits_of there).outputs_few, (limits_of there).inputs_few)
 
     module _ {g : Domain} {E L : List ℕ} {v : Verdict} (tests : Tests h g (length E) (length L) v) where
-      pub make_refused : {q : Refusal} {k : ℕ} → v ≡ verdict.Refused q k → CardKept (formula s) g (card_lists E L) (card_lists E L) (reply.Refused q k)
+      pub make_refused : {e : Refused} → v ≡ Err e → CardKept (formula s) g (card_lists E L) (card_lists E L) (Err e)
       make_refused t =
           kept_refused s g (card_lists E L)
           (job_is s g (length E) (length L) there
           ∙ chain_refused (tested matryoshka_kind h.inputs g) (λ ms. unless refusal.MarginNotZero (all_still ms))
           (λ ms. unless refusal.NoRoom (card_room h (length E) (length L))) (λ ms. card_made (meant s) ms) (by_case verdict_says tests.says t))
 
-      module _ (t : v ≡ verdict.Passed) where
-        pub make_startable : Startable s h g (card_lists E L)
-        make_startable =
-            let p = passed_tests tests t in
-            let r = both (leb h.outputs (length E)) _ (unless_true refusal.NoRoom (card_room h (length E) (length L)) p.roomy) in
-            record {
-              begun = record { is_formula = by_case check_answer checks is; fits = p.fits };
-              static_room = leb-true h.outputs (length E) r.0;
-              slope_room = leb-true (h.outputs * h.inputs) (length L) r.1;
-            }
-
+      module _ (t : v ≡ Ok tt) where
         pub make_kept : {new : CardLists} {r : Reply} → Makes s g (card_lists E L) new r → CardKept (formula s) g (card_lists E L) new r
         make_kept m =
             let p = passed_tests tests t in

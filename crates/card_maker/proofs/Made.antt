@@ -1,26 +1,28 @@
 -- A card in the code's shape: refused by its tests, its admission, its ball run or a slope, or made. Assumes nothing.
 use mathlib.Core.Path.{◌≡◌, refl, sym, ◌∙◌, ap, ap₂, subst}
 use mathlib.Core.List.{List, [], ◌∷◌, map}
-use Prim.Native.Nat.{ℕ, suc, ◌-◌, ◌*◌, ◌<◌}
+use mathlib.Core.Logic.{inl, inr}
+use Prim.Native.Nat.{ℕ, suc, ◌*◌, ◌<◌}
 use native.Mathlib.Omega.{arith}
-use lib.IntN.{ℤ, nat_abs}
+use lib.IntN.{nat_abs}
 use lib.ListN.{length, get_or, take, length-map}
 use Rattle.lists.specs.All.{All, none, one}
 use Rattle.lists.specs.Each.{Each}
 use Rattle.lists.specs.Over.{over}
 use Rattle.lists.proofs.Over.{over_front}
 use Rattle.lists.proofs.PartOf.{part_picked}
+use Rattle.std.specs.declared.result.Result.TheVariants.{Ok, Err}
+use Rattle.refusals.specs.Places.{because}
+use Rattle.refusals.specs.declared.Refused.{Refused}
 use Rattle.refusals.specs.declared.Refusal.{Refusal}
-use Rattle.refusals.specs.declared.Reply.TheVariants.{Done, Refused}
-use Rattle.refusals.specs.Answer.{value, refused, then}
+use Rattle.refusals.specs.Answer.{value, then}
 use Rattle.refusals.specs.Places.{Placed, refused_at, refuse_at}
 use Rattle.refusals.specs.Said.{answered, refuses}
 use Rattle.refusals.proofs.Answers.{then_value, then_refused}
 use Rattle.refusals.proofs.OneReply.{never_both, first_said, place_said}
 use Rattle.rules.specs.declared.Ball.{Ball}
 use Rattle.rules.specs.declared.Matryoshka.{Matryoshka}
-use Rattle.rules.specs.Values.{IsBall, IsMatryoshka}
-use Rattle.rules.specs.Balls.{ball, ball_rule}
+use Rattle.rules.specs.Balls.{ball_rule}
 use Rattle.rules.specs.Matryoshki.{matryoshka_rule}
 use Rattle.rules.specs.Lists.{balls, no_ball, no_matryoshka}
 use Rattle.rules.proofs.Lists.{static_part}
@@ -28,15 +30,15 @@ use Rattle.bits.specs.declared.Cursor.{Cursor}
 use Rattle.formulas.specs.declared.Header.{Header}
 use Rattle.formulas.specs.Formula.{Smaller, places}
 use Rattle.formulas.specs.Run.{Walk, finished, stopped, run, made_by, walk_end}
-use Rattle.formulas.specs.Readings.{Domain, domain}
-use Rattle.formulas.specs.Kinds.{matryoshka_kind}
+use Rattle.formulas.specs.Readings.{Domain, ball_readings, balls_brought}
+use Rattle.formulas.specs.Kinds.{ball_kind, matryoshka_kind}
 use Rattle.formulas.proofs.Walks.{run_long}
-use Rattle.formulas.proofs.Fitting.{DomainFit, domain_many, strays_even, margins_even}
+use Rattle.formulas.proofs.Judging.{Fit}
+use Rattle.formulas.proofs.Fitting.{let_in, let_through, DomainFit, domain_many, strays_even, margins_even}
 use Rattle.packed.specs.Meaning.{meant}
 use Rattle.packed.proofs.Formed.{Formed, formed}
-use Rattle.walks.specs.declared.Walked.{Walked}
-use Rattle.walks.specs.declared.Walked.TheVariants.{Finished, Stopped}
-use Rattle.walks.specs.Walks.{walked_said, StandsAfter}
+use Rattle.walks.specs.Walks.{Walked}
+use Rattle.walks.specs.Walks.{walked_said}
 use Rattle.cards.specs.Slopes.{all_inputs, slope_run}
 use Rattle.cards.specs.Card.{Card, picked, flat, rows}
 use Rattle.cards.specs.Making.{walked, ranges_of, card_made}
@@ -46,8 +48,8 @@ use Rattle.cards.proofs.Slopes.{inputs_long, slopes_long, slopes_many}
 use Rattle.cards.proofs.Flat.{flat_long, rows_flat, row_is}
 use Rattle.cards.proofs.Honest.{ranges_brought}
 use Rattle.slope_walk.specs.Grading.{row}
-use Rattle.card_maker.specs.Parts.{Begun, Admissible, admission, Admits, Rangeable, range_walk, Slopable, slope_walk, slopes_end, SlopesThere, Slopes}
-use Rattle.card_maker.specs.Parts.{Writable, Writes, StartableIn, Makes, card_lists}
+use Rattle.card_maker.specs.Parts.{Begun, admission, Admits, Rangeable, range_walk, Slopable, slope_walk, slopes_end, SlopesThere, Slopes}
+use Rattle.card_maker.specs.Parts.{Writes, Startable, Makes}
 use Rattle.card_maker.proofs.Admitted.{fit_of}
 
 -- ---- how a walk ends
@@ -89,10 +91,6 @@ map_each n f g e (Each.one {a = o} p ps) = ap₂ ◌∷◌ (e o p) (map_each n f
 
 -- ---- what each part asks
 
-ranges_legal : {ms : List Matryoshka} → All IsMatryoshka ms → All IsBall (ranges_of ms)
-ranges_legal none = none
-ranges_legal (one {a = m} p ps) = one {a = ball m.middle m.stray} (omega arith) (ranges_legal ps)
-
 module _ {s : List ℕ} {h : Header} {g : Domain} (b : Begun s h g) where
   fits : DomainFit h.inputs g
   fits = fit_of b
@@ -100,13 +98,25 @@ module _ {s : List ℕ} {h : Header} {g : Domain} (b : Begun s h g) where
   same_ranges : ranges_of (matryoshka_kind.values g) ≡ balls g.middles (map nat_abs g.strays)
   same_ranges = ranges_brought g.middles (map nat_abs g.strays) (map nat_abs g.margins) (strays_even fits) (margins_even fits)
 
-  begun_rangeable : Rangeable s h g.middles g.strays
+  -- middles and strays pass the tests of a ball's readings where the domain passed its own
+  range_fit : Fit h.inputs (balls_brought (ball_readings g.middles g.strays))
+  range_fit =
+      let f = (let_in matryoshka_kind h.inputs g b.fits).0 in
+      record {
+        counted = one fits.middles_many (one fits.strays_many none);
+        each_good = λ j l.
+            let good = f.each_good j l in
+            record {
+              signs = λ n. elim n [ inl b ↦ b | inr b ↦ good.signs (inl b) ];
+              reach = omega (arith, good.reach);
+            };
+      }
+
+  pub begun_rangeable : Rangeable s h g.middles g.strays
   begun_rangeable =
       record {
         is_formula = b.is_formula;
-        middles_many = fits.middles_many;
-        strays_many = fits.strays_many;
-        legal = subst (All IsBall) same_ranges (ranges_legal fits.legal);
+        fits = let_through ball_kind h.inputs (ball_readings g.middles g.strays) range_fit;
       }
 
   there : Formed s h
@@ -132,7 +142,7 @@ module _ {s : List ℕ} {h : Header} {g : Domain} (b : Begun s h g) where
       ∙ ap (λ bs. then (walked h.inputs (admission s h g)) (λ ns.
       slopes_then s h (λ ls. value (picked (meant s).results ns ls)) (run (ball_rule h.scale) no_ball (meant s).program bs))) same_ranges
 
-  makes_nothing : {q : Refusal} {k : ℕ} (old : CardLists) → card_made (meant s) (matryoshka_kind.values g) ≡ refuse_at q k → Makes s g old old (Refused q k)
+  makes_nothing : {q : Refusal} {k : ℕ} (old : CardLists) → card_made (meant s) (matryoshka_kind.values g) ≡ refuse_at q k → Makes s g old old (Err (because q k))
   makes_nothing old e =
       record {
         says = sym (ap card_said e);
@@ -140,11 +150,11 @@ module _ {s : List ℕ} {h : Header} {g : Domain} (b : Begun s h g) where
         slopes_hold = sym (ap (λ (x : Placed Card). over (slopes_in x) old.slopes) e);
       }
 
-  not_admitted : {old new : List ℕ} {r : Walked} {q : Refusal} {k : ℕ} → Admits s h g old new r → r ≡ Stopped q k
-      → card_made (meant s) (matryoshka_kind.values g) ≡ refuse_at q k
+  not_admitted : {old new : List ℕ} {r : Walked} {e : Refused} → Admits s h g old new r → r ≡ Err e
+      → card_made (meant s) (matryoshka_kind.values g) ≡ refuse_at e.why e.place
   not_admitted a t = is_made ∙ then_refused _ (walked_stopped h.inputs (admission s h g) (sym (ap walked_said t) ∙ a.says))
 
-  module _ {old new : List ℕ} {r : Walked} {d : Cursor} (a : Admits s h g old new r) (t : r ≡ Finished d) where
+  module _ {old new : List ℕ} {r : Walked} {d : Cursor} (a : Admits s h g old new r) (t : r ≡ Ok d) where
     admitted : admission s h g ≡ finished (made_by (admission s h g))
     admitted = walked_finished h.inputs (admission s h g) (sym (ap walked_said t) ∙ a.says)
 
@@ -153,10 +163,10 @@ module _ {s : List ℕ} {h : Header} {g : Domain} (b : Begun s h g) where
     after_admission = is_made ∙ then_value _ (ap (walked h.inputs) admitted)
 
     module _ {first last : List ℕ} {q : Walked} (l : Slopes s h g.middles g.strays first last q) where
-      not_graded : {z : Refusal} {k : ℕ} → q ≡ Stopped z k → card_made (meant s) (matryoshka_kind.values g) ≡ refuse_at z k
+      not_graded : {e : Refused} → q ≡ Err e → card_made (meant s) (matryoshka_kind.values g) ≡ refuse_at e.why e.place
       not_graded u = after_admission ∙ slopes_stopped s h _ (range_walk s h g.middles g.strays) (sym (ap walked_said u) ∙ l.says)
 
-      module _ {d' : Cursor} (u : q ≡ Finished d') where
+      module _ {d' : Cursor} (u : q ≡ Ok d') where
         both : BothFinish s h (range_walk s h g.middles g.strays)
         both = slopes_finished s h (range_walk s h g.middles g.strays) (sym (ap walked_said u) ∙ l.says)
 
@@ -204,7 +214,7 @@ module _ {s : List ℕ} {h : Header} {g : Domain} (b : Begun s h g) where
             run_long (matryoshka_rule h.scale) no_matryoshka (meant s).program (matryoshka_kind.values g) admitted
             ∙ omega (arith, domain_many fits, program_long)
 
-        made_card : {lists now : CardLists} → Writes s h new last lists now → Makes s g lists now (Done h.outputs)
+        made_card : {lists now : CardLists} → Writes s h new last lists now → Makes s g lists now (Ok h.outputs)
         made_card {lists} {now} x =
             record {
               says = ap answered (sym outputs_many) ∙ sym (ap card_said card_is);
@@ -229,37 +239,20 @@ module _ {s : List ℕ} {h : Header} {g : Domain} (b : Begun s h g) where
             row_there : (o : ℕ) → o < places h → row h.inputs (o * h.inputs) last ≡ get_or ls o []
             row_there o k = sym (row_is h.inputs (places h) last o k) ∙ ap (λ (r : List (List ℕ)). get_or r o []) rows_are
 
--- ---- as the code has it; the facts that share most with a goal come first
+-- ---- as the code has it
 
-module _ {s : List ℕ} {h : Header} {cs ss rs : List ℤ} {wm wl E L : List ℕ} where
-  pub carry_admissible : StartableIn s h (domain cs ss rs) wm wl (card_lists E L) → Admissible s h (domain cs ss rs) wm
-  carry_admissible p = record { begun = p.startable.begun; margins_room = p.margins_room }
+module _ {s : List ℕ} {h : Header} {g : Domain} {old : CardLists} (p : Startable s h g old) where
+  pub carry_slopable : {ls : List ℕ} → length ls ≡ 8448 → Slopable s h g.middles g.strays ls
+  carry_slopable e = record { rangeable = begun_rangeable p.begun; slopes_room = omega (arith, e) }
 
-  pub carry_slopable : StartableIn s h (domain cs ss rs) wm wl (card_lists E L) → Slopable s h cs ss wl
-  carry_slopable p = record { rangeable = begun_rangeable p.startable.begun; slopes_room = p.slopes_room }
+  module _ {wm mid : List ℕ} {r : Walked} (a : Admits s h g wm mid r) where
+    pub carry_not_admitted : {e : Refused} → r ≡ Err e → Makes s g old old (Err e)
+    carry_not_admitted t = makes_nothing p.begun old (not_admitted p.begun a t)
 
-  pub carry_not_admitted : {mid : List ℕ} {r : Walked} {q : Refusal} {k : ℕ} → Admits s h (domain cs ss rs) wm mid r → r ≡ Stopped q k
-      → StartableIn s h (domain cs ss rs) wm wl (card_lists E L) → Makes s (domain cs ss rs) (card_lists E L) (card_lists E L) (Refused q k)
-  carry_not_admitted a t p = makes_nothing p.startable.begun (card_lists E L) (not_admitted p.startable.begun a t)
+    module _ {d : Cursor} (t : r ≡ Ok d) {wl last : List ℕ} {q : Walked} (l : Slopes s h g.middles g.strays wl last q) where
+      pub carry_not_graded : {e : Refused} → q ≡ Err e → Makes s g old old (Err e)
+      carry_not_graded u = makes_nothing p.begun old (not_graded p.begun a t l u)
 
-  pub carry_writable : {mid last : List ℕ} {q : Walked} {e : Cursor} → Slopes s h cs ss wl last q → q ≡ Finished e → length mid ≡ length wm → length last ≡ length wl
-      → StartableIn s h (domain cs ss rs) wm wl (card_lists E L) → Writable s h e mid last (card_lists E L)
-  carry_writable l u x y p =
-      record {
-        is_formula = p.startable.begun.is_formula;
-        at_outputs = subst (StandsAfter s) u l.stands;
-        margins_there = omega (arith, p.margins_room);
-        slopes_there = omega (arith, p.slopes_room);
-        static_room = p.startable.static_room;
-        slope_room = p.startable.slope_room;
-      }
-
-  module _ {mid : List ℕ} {r : Walked} {d : Cursor} {last : List ℕ} {q : Walked} where
-    pub carry_not_graded : {z : Refusal} {k : ℕ} → Slopes s h cs ss wl last q → q ≡ Stopped z k → Admits s h (domain cs ss rs) wm mid r → r ≡ Finished d
-        → StartableIn s h (domain cs ss rs) wm wl (card_lists E L) → Makes s (domain cs ss rs) (card_lists E L) (card_lists E L) (Refused z k)
-    carry_not_graded l u a t p = makes_nothing p.startable.begun (card_lists E L) (not_graded p.startable.begun a t l u)
-
-    pub carry_done : {E' L' : List ℕ} {e : Cursor} → Writes s h mid last (card_lists E L) (card_lists E' L') → Slopes s h cs ss wl last q → q ≡ Finished e
-        → Admits s h (domain cs ss rs) wm mid r → r ≡ Finished d → StartableIn s h (domain cs ss rs) wm wl (card_lists E L)
-        → Makes s (domain cs ss rs) (card_lists E L) (card_lists E' L') (Done h.outputs)
-    carry_done x l u a t p = made_card p.startable.begun a t l u x
+      module _ {e : Cursor} (u : q ≡ Ok e) where
+        pub carry_done : {new : CardLists} → Writes s h mid last old new → Makes s g old new (Ok h.outputs)
+        carry_done x = made_card p.begun a t l u x

@@ -1,10 +1,8 @@
 -- Making a card allows one outcome, and each answer is given exactly when. Assumes nothing.
 use mathlib.Core.Path.{◌≡◌, sym, ◌∙◌, ap}
-use mathlib.Core.List.{List}
-use Prim.Native.Nat.{ℕ}
 use lib.ListN.{length}
 use Rattle.lists.specs.Over.{over}
-use Rattle.refusals.specs.declared.Reply.{Reply}
+use Rattle.refusals.specs.Said.{Reply}
 use Rattle.refusals.specs.Answer.{Answer}
 use Rattle.refusals.specs.Places.{Placed}
 use Rattle.refusals.specs.Said.{reply_said}

@@ -6,3 +6,4 @@ pub mod making;
 pub mod picking;
 pub mod slopes;
 pub mod testing;
+pub mod working;

@@ -1,54 +1,39 @@
 // The slopes of all values over a domain that fits: the ball run over (middle, stray) first.
 ghost use Rattle.rules.specs.Lists.{ball_lists};
-ghost use Rattle.card_maker.specs.Parts.{Ranging, RangesIn, GradesIn, Slopable, Slopes};
+ghost use Rattle.formulas.specs.Readings.{ball_readings};
+ghost use Rattle.formulas.specs.Kinds.{ball_kind};
+ghost use Rattle.card_maker.specs.Parts.{Runnable, Runs, Slopable, Slopes};
 
-use ball_walk::walk;
+use crate::working::run;
+use ball_walk::BallJob;
+use bits::Cursor;
 use formulas::Header;
-use lists::{copy_numbers, copy_sizes};
+use refusals::Refused;
 use slope_walk::rows::lay_inputs;
 use slope_walk::walking::grade;
-use walks::Walked;
 
 // The ball run.
-fn range_in(
+fn range(
     s: &[u8],
     h: Header,
     middles: &[i64],
     strays: &[i64],
-    centres: &mut [i64],
-    margins: &mut [u64],
-) -> Walked
-    requires { Ranging s.now h middles.now strays.now (ball_lists centres.old margins.old) }
-    ensures { RangesIn s.now h middles.now strays.now
-        (ball_lists centres.old margins.old)
-        (ball_lists centres.new margins.new) result }
+    work_centres: &mut [i64],
+    work_margins: &mut [u64],
+) -> Result<Cursor, Refused>
+    requires { Runnable ball_kind s.now h (ball_readings middles.now strays.now) (ball_lists work_centres.old work_margins.old) }
+    ensures { Runs ball_kind s.now h (ball_readings middles.now strays.now) (ball_lists work_centres.old work_margins.old)
+        (ball_lists work_centres.new work_margins.new) result }
 {
-    copy_numbers(middles, centres);
-    copy_sizes(strays, margins);
-    walk(s, h, centres, margins)
-}
-
-// Both, in lent lists.
-fn grade_in(
-    s: &[u8],
-    h: Header,
-    middles: &[i64],
-    strays: &[i64],
-    centres: &mut [i64],
-    margins: &mut [u64],
-    slopes: &mut [u64],
-) -> Walked
-    requires { GradesIn s.now h middles.now strays.now (ball_lists centres.old margins.old) slopes.old }
-    ensures { Slopes s.now h middles.now strays.now
-        slopes.old slopes.new result }
-{
-    match range_in(s, h, middles, strays, centres, margins) {
-        Walked::Stopped(q, k) => Walked::Stopped(q, k),
-        Walked::Finished(end) => {
-            lay_inputs(h.scale, h.inputs, slopes);
-            grade(s, h, centres, margins, slopes)
-        }
-    }
+    let mut job = BallJob {
+        centres: middles,
+        margins: strays,
+        work_centres,
+        work_margins,
+        output_centres: &mut [],
+        output_margins: &mut [],
+    };
+    run(s, h, &mut job)
 }
 
 // The balls are not kept.
@@ -58,12 +43,14 @@ pub(crate) fn grade_all(
     middles: &[i64],
     strays: &[i64],
     slopes: &mut [u64],
-) -> Walked
+) -> Result<Cursor, Refused>
     requires { Slopable s.now h middles.now strays.now slopes.old }
     ensures { Slopes s.now h middles.now strays.now
         slopes.old slopes.new result }
 {
-    let mut centres: [i64; 528] = [0; 528];
-    let mut margins: [u64; 528] = [0; 528];
-    grade_in(s, h, middles, strays, &mut centres, &mut margins, slopes)
+    let mut centres = [0i64; 528];
+    let mut margins = [0u64; 528];
+    range(s, h, middles, strays, &mut centres, &mut margins)?;
+    lay_inputs(h.scale, h.inputs, slopes);
+    grade(s, h, &centres, &margins, slopes)
 }

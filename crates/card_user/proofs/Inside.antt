@@ -1,66 +1,56 @@
--- Balls inside a domain, in the code's shape: readings that passed 13 to 15 have small numbers, so their difference and sum fit. Assumes
--- nothing.
-use mathlib.Core.Path.{◌≡◌, refl, sym, ◌∙◌, ap, ap₂, subst}
-use mathlib.Core.Bool.{Bool, true, false, not}
-use mathlib.Core.List.{List, map}
+-- Balls inside a domain, in the code's shape. Assumes nothing.
+use mathlib.Core.Path.{◌≡◌, refl, sym, ◌∙◌, ap, ap₂}
+use mathlib.Core.Bool.{Bool, true, false}
+use mathlib.Core.List.{map}
 use Prim.Native.Nat.{ℕ, ◌+◌, ◌≤◌, ◌<◌}
 use native.Mathlib.Omega.{arith}
 use borrow.Author.Count.{below_more}
-use borrow.Author.Tests.{leb-true, le-leb, not-true, not-false}
+use borrow.Author.Tests.{leb-true, le-leb}
 use lib.Dec.{leb}
-use lib.IntN.{ℤ, pos, neg_ℤ, nat_abs, ◌+ℤ◌, ◌-ℤ◌}
+use lib.IntN.{ℤ, pos, nat_abs, ◌-ℤ◌}
 use lib.ListN.{length, get_or, length-map, get_or-map}
-use mir.Syntax.{w64}
-use mir.Val.{SFits, Fits}
 use Rattle.whole.proofs.Cases.{never}
-use Rattle.whole.proofs.Ring.{◌⊖◌, x₀, x₁}
 use Rattle.whole.proofs.Size.{size_sub}
-use Rattle.whole.proofs.Machine.{back, back_is, fits, held_is}
+use Rattle.whole.proofs.Machine.{back, back_is}
 use Rattle.lists.proofs.Joined.{joined_at}
 use Rattle.refusals.specs.Answer.{value}
 use Rattle.rules.specs.Numbers.{M}
 use Rattle.rules.specs.Balls.{ball}
 use Rattle.rules.specs.Lists.{no_ball, margins_of}
 use Rattle.rules.proofs.Lists.{balls_margins}
-use Rattle.rounding.proofs.Linear.{two}
-use Rattle.formulas.specs.Readings.{BallReadings, ball_readings, number_at, balls_brought}
+use Rattle.formulas.specs.Readings.{BallReadings, number_at, balls_brought, reading}
+use Rattle.formulas.specs.Readings.{Reading as Whole}
 use Rattle.formulas.specs.Kinds.{ball_kind, tested}
 use Rattle.formulas.proofs.Judging.{Fit}
 use Rattle.formulas.proofs.Fitting.{let_in, BallFit, ball_fit, ball_many, balls_even}
 use Rattle.cards.specs.Card.{Inside}
 use Rattle.cards.specs.Using.{is_inside, all_inside}
 use Rattle.cards.proofs.Tests.{one_outside, outside_one}
-use Rattle.card_user.specs.Tests.{Small, IsInside, Passed, AllInside}
+use Rattle.card_user.specs.Tests.{Small, ball_of, IsInside, Passed, AllInside}
+use Rattle.lists.specs.All.{none, one}
+use Rattle.readings.specs.declared.Reading.{Reading}
+use Rattle.readings.specs.Judges.{InEach, Reads}
+
+-- ---- one ball
 
 -- a small number is as the machine keeps it
 kept : (z : ℤ) → nat_abs z ≤ M → back z ≡ z
 kept z l = back_is z (omega arith)
 
--- ---- one ball
+module _ {x y : Reading} (s : Small x y) where
+  apart : back (back y.centre -ℤ back x.centre) ≡ y.centre -ℤ x.centre
+  apart =
+      ap₂ (λ a b. back (a -ℤ b)) (kept y.centre s.centre_small) (kept x.centre s.middle_small)
+      ∙ back_is (y.centre -ℤ x.centre) (omega (arith, size_sub y.centre x.centre, s.centre_small, s.middle_small))
 
-module _ {middle stray centre margin : ℤ} (s : Small middle stray centre margin) where
-  pub apart_fits : SFits w64 (back centre +ℤ neg_ℤ (back middle))
-  apart_fits = fits (two centre middle s.centre_small s.middle_small) (x₀ ⊖ x₁) tt
-
-  apart_is : back (back centre +ℤ neg_ℤ (back middle)) ≡ centre -ℤ middle
-  apart_is = held_is (two centre middle s.centre_small s.middle_small) (x₀ ⊖ x₁) tt
-
-  module _ {a : ℕ} (e : a ≡ nat_abs (back (back centre +ℤ neg_ℤ (back middle)))) where
-    apart : a ≡ nat_abs (centre -ℤ middle)
-    apart = e ∙ ap nat_abs apart_is
-
-    -- with any small number's size
-    pub reach_fits : (z : ℤ) {b : ℕ} → b ≡ nat_abs (back z) → nat_abs z ≤ M → Fits w64 (a + b)
-    reach_fits z f l =
-        record { fits = omega (arith, apart, f ∙ ap nat_abs (kept z l), size_sub centre middle, s.centre_small, s.middle_small) }
-
-    pub inside_told : {b d : ℕ} → b ≡ nat_abs (back margin) → d ≡ nat_abs (back stray) → IsInside middle stray centre margin (leb (a + b) d)
-    inside_told f g =
-        record {
-          is =
-              ap₂ leb (ap₂ ◌+◌ apart (f ∙ ap nat_abs (kept margin s.margin_small)))
-              (g ∙ ap nat_abs (kept stray s.stray_small));
-        }
+  pub inside_told : {a b d : ℕ} → a ≡ nat_abs (back (back y.centre -ℤ back x.centre)) → b ≡ nat_abs (back y.margin)
+      → d ≡ nat_abs (back x.margin) → IsInside x y (leb (a + b) d)
+  inside_told e f g =
+      record {
+        is =
+            ap₂ leb (ap₂ ◌+◌ (e ∙ ap nat_abs apart) (f ∙ ap nat_abs (kept y.margin s.margin_small)))
+            (g ∙ ap nat_abs (kept x.margin s.stray_small));
+      }
 
 -- ---- readings that passed
 
@@ -103,88 +93,61 @@ pub record InsideBefore (m : ℕ) (d b : BallReadings) (i : ℕ) : Type 0 where
   pub some : i ≤ m
   pub inside : (k : ℕ) → k < i → is_inside (get_or (ball_kind.values d) k no_ball) (get_or (ball_kind.values b) k no_ball) ≡ true
 
-module _ {m : ℕ} {cs ss xs rs : List ℤ} where
-  pub none_looked_at : InsideBefore m (ball_readings cs ss) (ball_readings xs rs) 0
-  none_looked_at = record { some = omega arith; inside = λ k l. absurd (omega arith) }
-
-  module _ (p : Passed m (ball_readings cs ss) (ball_readings xs rs)) where
-    as_many : length (ball_kind.values (ball_readings cs ss)) ≡ length (ball_kind.values (ball_readings xs rs))
-    as_many = values_long m (ball_readings cs ss) p.domain_fits ∙ sym (values_long m (ball_readings xs rs) p.readings_fit)
+module _ {m : ℕ} {d b : BallReadings} where
+  module _ (p : Passed m d b) where
+    as_many : length (ball_kind.values d) ≡ length (ball_kind.values b)
+    as_many = values_long m d p.domain_fits ∙ sym (values_long m b p.readings_fit)
 
     module _ {i : ℕ} (l : i < m) where
-      pub middles_there : i < length cs
-      middles_there = omega (arith, centres_long m (ball_readings cs ss) p.domain_fits)
+      pub domain_there : InEach i (balls_brought d)
+      domain_there =
+          one (omega (arith, centres_long m d p.domain_fits)) (one (omega (arith, margins_long m d p.domain_fits)) none)
 
-      pub strays_there : i < length ss
-      strays_there = omega (arith, margins_long m (ball_readings cs ss) p.domain_fits)
+      pub ball_there : InEach i (balls_brought b)
+      ball_there =
+          one (omega (arith, centres_long m b p.readings_fit)) (one (omega (arith, margins_long m b p.readings_fit)) none)
 
-      pub centres_there : i < length xs
-      centres_there = omega (arith, centres_long m (ball_readings xs rs) p.readings_fit)
+      module _ {x y : Reading} (dx : Reads (balls_brought d) i (reading x.centre x.stray x.margin))
+          (by : Reads (balls_brought b) i (reading y.centre y.stray y.margin)) where
+        domain_at : ball_of x ≡ get_or (ball_kind.values d) i no_ball
+        domain_at = ap (λ (g : Whole). ball g.centre (nat_abs g.margin)) dx.is ∙ sym (value_at m d p.domain_fits i l)
 
-      pub margins_there : i < length rs
-      margins_there = omega (arith, margins_long m (ball_readings xs rs) p.readings_fit)
+        reading_at : ball_of y ≡ get_or (ball_kind.values b) i no_ball
+        reading_at = ap (λ (g : Whole). ball g.centre (nat_abs g.margin)) by.is ∙ sym (value_at m b p.readings_fit i l)
 
-      c_low : nat_abs (number_at cs i) ≤ M
-      c_low = centre_low m (ball_readings cs ss) p.domain_fits i l
-
-      s_low : nat_abs (number_at ss i) ≤ M
-      s_low = margin_low m (ball_readings cs ss) p.domain_fits i l
-
-      x_low : nat_abs (number_at xs i) ≤ M
-      x_low = centre_low m (ball_readings xs rs) p.readings_fit i l
-
-      r_low : nat_abs (number_at rs i) ≤ M
-      r_low = margin_low m (ball_readings xs rs) p.readings_fit i l
-
-      low : (z : ℤ) → nat_abs z ≤ M → nat_abs (back z) ≤ M
-      low z h = subst (λ y. nat_abs y ≤ M) (sym (kept z h)) h
-
-      pub numbers_small : Small (back (number_at cs i)) (back (number_at ss i)) (back (number_at xs i)) (back (number_at rs i))
-      numbers_small =
-          record {
-            middle_small = low (number_at cs i) c_low;
-            stray_small = low (number_at ss i) s_low;
-            centre_small = low (number_at xs i) x_low;
-            margin_small = low (number_at rs i) r_low;
-          }
-
-      module _ {t : Bool} (told : IsInside (back (number_at cs i)) (back (number_at ss i)) (back (number_at xs i)) (back (number_at rs i)) t) where
-        domain_at : ball (back (number_at cs i)) (nat_abs (back (number_at ss i))) ≡ get_or (ball_kind.values (ball_readings cs ss)) i no_ball
-        domain_at =
-            ap₂ ball (kept (number_at cs i) c_low) (ap nat_abs (kept (number_at ss i) s_low))
-            ∙ sym (value_at m (ball_readings cs ss) p.domain_fits i l)
-
-        reading_at : ball (back (number_at xs i)) (nat_abs (back (number_at rs i))) ≡ get_or (ball_kind.values (ball_readings xs rs)) i no_ball
-        reading_at =
-            ap₂ ball (kept (number_at xs i) x_low) (ap nat_abs (kept (number_at rs i) r_low))
-            ∙ sym (value_at m (ball_readings xs rs) p.readings_fit i l)
-
-        told_at : t ≡ is_inside (get_or (ball_kind.values (ball_readings cs ss)) i no_ball) (get_or (ball_kind.values (ball_readings xs rs)) i no_ball)
-        told_at = told.is ∙ ap₂ is_inside domain_at reading_at
-
-        pub sticks_out : not t ≡ true → AllInside (ball_readings cs ss) (ball_readings xs rs) false
-        sticks_out e =
+        pub numbers_small : Small x y
+        numbers_small =
             record {
-              is =
-                  sym
-                  (outside_one (ball_kind.values (ball_readings cs ss)) (ball_kind.values (ball_readings xs rs))
-                  (sym (values_long m (ball_readings cs ss) p.domain_fits)) as_many (record { index = i; among = l; outside = out }));
+              middle_small = omega (arith, ap (λ (g : Whole). nat_abs g.centre) dx.is, centre_low m d p.domain_fits i l);
+              stray_small = omega (arith, ap (λ (g : Whole). nat_abs g.margin) dx.is, margin_low m d p.domain_fits i l);
+              centre_small = omega (arith, ap (λ (g : Whole). nat_abs g.centre) by.is, centre_low m b p.readings_fit i l);
+              margin_small = omega (arith, ap (λ (g : Whole). nat_abs g.margin) by.is, margin_low m b p.readings_fit i l);
             }
-          where
-            out : Inside (get_or (ball_kind.values (ball_readings cs ss)) i no_ball) (get_or (ball_kind.values (ball_readings xs rs)) i no_ball) → ⊥
-            out h = never (sym (le-leb _ _ h.inside) ∙ sym told_at ∙ not-true t e)
 
-        pub one_inside : not t ≡ false → InsideBefore m (ball_readings cs ss) (ball_readings xs rs) i
-            → InsideBefore m (ball_readings cs ss) (ball_readings xs rs) (i + 1)
-        one_inside e w = record { some = omega arith; inside = below_more _ _ w.inside (sym told_at ∙ not-false t e) }
+        module _ {t : Bool} (told : IsInside x y t) where
+          told_at : t ≡ is_inside (get_or (ball_kind.values d) i no_ball) (get_or (ball_kind.values b) i no_ball)
+          told_at = told.is ∙ ap₂ is_inside domain_at reading_at
 
-    pub all_looked_at : {i : ℕ} → InsideBefore m (ball_readings cs ss) (ball_readings xs rs) i → m ≤ i
-        → AllInside (ball_readings cs ss) (ball_readings xs rs) true
-    all_looked_at {i} w l = record { is = sym (by_test (all_inside (ball_kind.values (ball_readings cs ss)) (ball_kind.values (ball_readings xs rs))) refl) }
+          pub sticks_out : t ≡ false → AllInside d b false
+          sticks_out e =
+              record {
+                is =
+                    sym
+                    (outside_one (ball_kind.values d) (ball_kind.values b) (sym (values_long m d p.domain_fits)) as_many
+                    (record { index = i; among = l; outside = out }));
+              }
+            where
+              out : Inside (get_or (ball_kind.values d) i no_ball) (get_or (ball_kind.values b) i no_ball) → ⊥
+              out h = never (sym (le-leb _ _ h.inside) ∙ sym told_at ∙ e)
+
+          pub one_inside : t ≡ true → InsideBefore m d b i → InsideBefore m d b (i + 1)
+          one_inside e w = record { some = omega arith; inside = below_more _ _ w.inside (sym told_at ∙ e) }
+
+    pub all_looked_at : {i : ℕ} → InsideBefore m d b i → m ≤ i → AllInside d b true
+    all_looked_at {i} w l = record { is = sym (by_test (all_inside (ball_kind.values d) (ball_kind.values b)) refl) }
       where
-        by_test : (t : Bool) → all_inside (ball_kind.values (ball_readings cs ss)) (ball_kind.values (ball_readings xs rs)) ≡ t
-            → all_inside (ball_kind.values (ball_readings cs ss)) (ball_kind.values (ball_readings xs rs)) ≡ true
+        by_test : (t : Bool) → all_inside (ball_kind.values d) (ball_kind.values b) ≡ t → all_inside (ball_kind.values d) (ball_kind.values b) ≡ true
         by_test true e = e
         by_test false e =
-            let o = one_outside (ball_kind.values (ball_readings cs ss)) (ball_kind.values (ball_readings xs rs)) as_many e in
-            absurd (o.outside (record { inside = leb-true _ _ (w.inside o.index (omega (arith, o.among, values_long m (ball_readings cs ss) p.domain_fits))) }))
+            let o = one_outside (ball_kind.values d) (ball_kind.values b) as_many e in
+            absurd (o.outside (record { inside = leb-true _ _ (w.inside o.index (omega (arith, o.among, values_long m d p.domain_fits))) }))

@@ -1,5 +1,5 @@
 -- The laws of a card's use, in the code's shape, one subject a file.
-pub mod Counts
+pub mod Lows
 pub mod Inside
 pub mod Sums
 pub mod Fronts

@@ -3,7 +3,8 @@ use Rattle.std.specs.Prelude.{List, ℕ, ◌≤◌, ℤ, pos}
 use Rattle.rules.specs.Numbers.{top_scale}
 use Rattle.formulas.specs.Readings.{BallReadings}
 use Rattle.cards.specs.Using.{Use}
-use Rattle.card_user.specs.Tests.{Few, Passed}
+use Rattle.card_user.specs.declared.Card.{Card}
+use Rattle.card_user.specs.Tests.{Few}
 
 -- scale and counts, the domain's middles and strays, E and L, the reading balls
 abbrev pub brought : ℤ → ℤ → ℤ → BallReadings → List ℕ → List ℕ → BallReadings → Use
@@ -27,7 +28,7 @@ pub record Counted (F m n : ℕ) : Type 0 where
 abbrev pub counted : ℕ → ℕ → ℕ → BallReadings → List ℕ → List ℕ → BallReadings → Use
 counted F m n = brought (pos F) (pos m) (pos n)
 
--- and 13 to 15
-pub record Readable (F m n : ℕ) (domain readings : BallReadings) : Type 0 where
-  pub counts : Counted F m n
-  pub passed : Passed m domain readings
+-- what a card, a domain and balls bring
+abbrev pub used : Card → BallReadings → BallReadings → Use
+used c domain readings =
+    counted c.scale c.inputs c.outputs domain c.static_margins.now c.slopes.now readings

@@ -3,93 +3,47 @@
 
 ghost use Rattle.formulas.specs.Readings.{ball_readings};
 ghost use Rattle.cards.specs.Lent.{UseKept};
-ghost use Rattle.card_user.specs.Uses.{brought, Counted, counted, Readable};
+ghost use Rattle.card_user.specs.Uses.{brought, Counted, used};
 
-use adding::put_margins;
-use readings::ball_readings;
-use refusals::{Refusal, Reply, Verdict};
-use testing::{card_fits, counts_fit, has_room};
+use readings::{GivenBalls, test};
+use refusals::{Refusal, Refused};
+use testing::{all_inside, counts_fit};
 use whole::below;
 
 pub mod adding;
 pub mod testing;
 
-// A domain and balls that passed: 10, then 20, then the margins.
-fn with_readings(
-    scale: u32,
-    m: usize,
-    n: usize,
-    middles: &[i64],
-    strays: &[i64],
-    static_margins: &[u64],
-    slopes: &[u64],
-    centres: &[i64],
-    margins: &[i64],
-    output_margins: &mut [u64],
-) -> Reply
-    requires { Readable scale m n (ball_readings middles.now strays.now)
-        (ball_readings centres.now margins.now) }
-    ensures { UseKept (counted scale m n (ball_readings middles.now strays.now)
-        static_margins.now slopes.now
-        (ball_readings centres.now margins.now))
-        output_margins.old output_margins.new result }
-{
-    let room = output_margins.len();
-    if !has_room(m, n, static_margins.len(), slopes.len(), room) {
-        return Reply::Refused(Refusal::NoRoom, 0);
-    }
-    if !card_fits(
-        m,
-        n,
-        static_margins,
-        slopes,
-        middles,
-        strays,
-        centres,
-        margins,
-    ) {
-        return Reply::Refused(Refusal::CardMisfit, 0);
-    }
-    put_margins(scale, m, n, static_margins, slopes, margins, output_margins)
+// A card of so many inputs and outputs as a caller lends it: E of each output, and its L of each input.
+#[derive(Clone, Copy)]
+pub(crate) struct Card<'a> {
+    pub scale: u32,
+    pub inputs: usize,
+    pub outputs: usize,
+    pub static_margins: &'a [u64],
+    pub slopes: &'a [u64],
 }
 
-// A scale and counts that passed: the domain is tested, then the balls.
+// A scale and counts that passed: the domain is tested, the balls, the lists, the card.
 fn with_counts(
-    scale: u32,
-    m: usize,
-    n: usize,
-    middles: &[i64],
-    strays: &[i64],
-    static_margins: &[u64],
-    slopes: &[u64],
-    centres: &[i64],
-    margins: &[i64],
+    card: Card,
+    domain: GivenBalls,
+    balls: GivenBalls,
     output_margins: &mut [u64],
-) -> Reply
-    requires { Counted scale m n }
-    ensures { UseKept (counted scale m n (ball_readings middles.now strays.now)
-        static_margins.now slopes.now
-        (ball_readings centres.now margins.now))
+) -> Result<usize, Refused>
+    requires { Counted card.scale card.inputs card.outputs }
+    ensures { UseKept (used card.entry (ball_readings domain.entry.centres.now domain.entry.margins.now)
+        (ball_readings balls.entry.centres.now balls.entry.margins.now))
         output_margins.old output_margins.new result }
 {
-    if let Verdict::Refused(q, k) = ball_readings(middles, strays, m) {
-        return Reply::Refused(q, k);
+    test(&domain, card.inputs)?;
+    test(&balls, card.inputs)?;
+    if !card.has_room(output_margins.len()) {
+        return Err(Refusal::NoRoom.into());
     }
-    if let Verdict::Refused(q, k) = ball_readings(centres, margins, m) {
-        return Reply::Refused(q, k);
+    if !card.is_low() || !all_inside(domain, balls, card.inputs) {
+        return Err(Refusal::CardMisfit.into());
     }
-    with_readings(
-        scale,
-        m,
-        n,
-        middles,
-        strays,
-        static_margins,
-        slopes,
-        centres,
-        margins,
-        output_margins,
-    )
+    card.put_margins(balls.margins, output_margins)
 }
 
 // The margin of each output in front of `output_margins` for these balls inside this domain, or the refusal and its
@@ -105,28 +59,33 @@ pub fn use_card(
     centres: &[i64],
     margins: &[i64],
     output_margins: &mut [u64],
-) -> Reply
+) -> Result<usize, Refused>
     ensures { UseKept (brought scale inputs outputs (ball_readings middles.now strays.now)
         static_margins.now slopes.now
         (ball_readings centres.now margins.now))
         output_margins.old output_margins.new result }
 {
     if !below(scale, 31) {
-        return Reply::Refused(Refusal::Scale, 0);
+        return Err(Refusal::Scale.into());
     }
     if !counts_fit(inputs, outputs) {
-        return Reply::Refused(Refusal::Count, 0);
+        return Err(Refusal::Count.into());
     }
-    with_counts(
-        scale as u32,
-        inputs as usize,
-        outputs as usize,
-        middles,
-        strays,
+    let card = Card {
+        scale: scale as u32,
+        inputs: inputs as usize,
+        outputs: outputs as usize,
         static_margins,
         slopes,
-        centres,
-        margins,
+    };
+    let domain = GivenBalls {
+        centres: middles,
+        margins: strays,
+    };
+    with_counts(
+        card,
+        domain,
+        GivenBalls { centres, margins },
         output_margins,
     )
 }

@@ -1,9 +1,12 @@
 // The tests of a card's use: 4, 10 and 20.
-ghost use Rattle.std.specs.Prelude.{◌≤◌, length};
+ghost use Rattle.std.specs.Prelude.{◌≡◌, ◌≤◌, leb};
+ghost use Rattle.std.specs.List.{list_all};
+ghost use Rattle.rules.specs.Numbers.{M};
 ghost use Rattle.formulas.specs.Readings.{ball_readings};
-ghost use Rattle.card_user.specs.Tests.{CountsFit, Few, HasRoom, AllSmall, Small, IsInside, Passed, AllInside};
-ghost use Rattle.card_user.specs.Tests.{Fittable, CardFits};
+ghost use Rattle.card_user.specs.Tests.{CountsFit, Few, HasRoom, Holds, IsLow, Small, IsInside, Passed, AllInside};
 
+use crate::Card;
+use readings::{GivenBalls, Reading, Readings};
 use rounding::LIMIT;
 use whole::{below, magnitude};
 
@@ -11,94 +14,54 @@ use whole::{below, magnitude};
 pub(crate) fn counts_fit(inputs: i64, outputs: i64) -> bool
     ensures { CountsFit inputs outputs result }
 {
-    if !below(inputs, 17) {
-        return false;
-    }
-    if !below(outputs, 17) {
-        return false;
-    }
-    1 <= magnitude(outputs)
+    below(inputs, 17) && below(outputs, 17) && 1 <= magnitude(outputs)
 }
 
-// Whether lists of these lengths hold a card of n outputs and m inputs, and its n margins.
-pub(crate) fn has_room(m: usize, n: usize, static_margins: usize, slopes: usize, out: usize) -> bool
-    requires { Few m n }
-    ensures { HasRoom m n static_margins slopes out result }
+// Whether none of these numbers is over M.
+fn all_small(numbers: &[u64]) -> bool
+    ensures { result ≡ list_all (λ x. leb x M) numbers.now }
 {
-    if static_margins < n {
-        return false;
-    }
-    if slopes < n * m {
-        return false;
-    }
-    n <= out
+    numbers.iter().all(|x| *x <= LIMIT)
 }
 
-// Whether none of the first `count` numbers is over M.
-fn all_small(numbers: &[u64], count: usize) -> bool
-    requires { count ≤ length numbers.now }
-    ensures { AllSmall count numbers.now result }
-{
-    let mut k = 0;
-    while k < count {
-        if LIMIT < numbers[k] {
-            return false;
-        }
-        k = k + 1;
+impl Card<'_> {
+    // Whether its lists hold all its numbers, and a list of that length its margins.
+    pub(crate) fn has_room(self, out: usize) -> bool
+        requires { Few self.inputs self.outputs }
+        ensures { HasRoom self.entry out result }
+    {
+        let (m, n) = (self.inputs, self.outputs);
+        n <= self.static_margins.len() && n * m <= self.slopes.len() && n <= out
     }
-    true
+
+    // Whether none of its numbers is over M.
+    pub(crate) fn is_low(self) -> bool
+        requires { Holds self }
+        ensures { IsLow self.entry result }
+    {
+        all_small(&self.static_margins[..self.outputs])
+            && all_small(&self.slopes[..self.outputs * self.inputs])
+    }
 }
 
 // Whether a ball, with its own margin, strays no further from the middle than the stray allows.
-fn is_inside(middle: i64, stray: i64, centre: i64, margin: i64) -> bool
-    requires { Small middle stray centre margin }
-    ensures { IsInside middle stray centre margin result }
+fn is_inside(domain: Reading, ball: Reading) -> bool
+    requires { Small domain ball }
+    ensures { IsInside domain ball result }
 {
-    magnitude(centre - middle) + magnitude(margin) <= magnitude(stray)
+    magnitude(ball.centre - domain.centre) + magnitude(ball.margin) <= magnitude(domain.margin)
 }
 
 // Whether each of m balls is inside its reading of the domain.
-fn all_inside(middles: &[i64], strays: &[i64], centres: &[i64], margins: &[i64], m: usize) -> bool
-    requires { Passed m (ball_readings middles.now strays.now) (ball_readings centres.now margins.now) }
-    ensures { AllInside (ball_readings middles.now strays.now)
-        (ball_readings centres.now margins.now) result }
+pub(crate) fn all_inside(domain: GivenBalls, balls: GivenBalls, m: usize) -> bool
+    requires { Passed m (ball_readings domain.centres.now domain.margins.now) (ball_readings balls.centres.now balls.margins.now) }
+    ensures { AllInside (ball_readings domain.entry.centres.now domain.entry.margins.now)
+        (ball_readings balls.entry.centres.now balls.entry.margins.now) result }
 {
-    let mut i = 0;
-    while i < m {
-        let c = middles[i];
-        let s = strays[i];
-        let x = centres[i];
-        let r = margins[i];
-        if !is_inside(c, s, x, r) {
+    for i in 0..m {
+        if !is_inside(domain.at(i), balls.at(i)) {
             return false;
         }
-        i = i + 1;
     }
     true
-}
-
-// Whether no number of the card is over M and all balls are inside the domain.
-pub(crate) fn card_fits(
-    m: usize,
-    n: usize,
-    static_margins: &[u64],
-    slopes: &[u64],
-    middles: &[i64],
-    strays: &[i64],
-    centres: &[i64],
-    margins: &[i64],
-) -> bool
-    requires { Fittable m n static_margins.now slopes.now (ball_readings middles.now strays.now)
-        (ball_readings centres.now margins.now) }
-    ensures { CardFits m n static_margins.now slopes.now
-        (ball_readings middles.now strays.now)
-        (ball_readings centres.now margins.now) result }
-{
-    if !all_small(static_margins, n) {
-        return false;
-    }
-    if !all_small(slopes, n * m) {
-        return false;
-    }
-    all_inside(middles, strays, centres, margins, m)
 }

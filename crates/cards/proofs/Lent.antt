@@ -5,7 +5,7 @@ use Prim.Native.Nat.{ℕ, ◌*◌}
 use lib.ListN.{length, take}
 use Rattle.lists.specs.Over.{over}
 use Rattle.lists.proofs.Over.{over_front}
-use Rattle.refusals.specs.declared.Reply.TheVariants.{Done}
+use Rattle.std.specs.declared.result.Result.TheVariants.{Ok}
 use Rattle.refusals.specs.Answer.{Answer, value, refused}
 use Rattle.refusals.specs.Places.{Placed}
 use Rattle.refusals.specs.Said.{answered}
@@ -37,7 +37,7 @@ use_done {x} e = by_answer x e
 
 module _ (a : Answer Formula) (g : Domain) {f : Formula} (means : a ≡ value f) (well : WellFormed f) {old new : CardLists} where
   -- the card that was made stands in front of the two lists
-  pub kept_uses : {k : Card} → lent_card a g old ≡ value k → {i : ℕ} → CardKept a g old new (Done i) → (bs : BallReadings)
+  pub kept_uses : {k : Card} → lent_card a g old ≡ value k → {i : ℕ} → CardKept a g old new (Ok i) → (bs : BallReadings)
       → UsesCard f g k (use_of f g new bs)
   kept_uses {k} e kept bs =
       record {
@@ -69,7 +69,7 @@ module _ (a : Answer Formula) (g : Domain) {f : Formula} (means : a ≡ value f)
       fits = card_fits a g er lr c (subst WellFormed (sym same) well)
 
   -- one job says that a card was made, the other that margins were given: the first n of them hold every exact result around the bare answer
-  pub lent_honest : {i : ℕ} → CardKept a g old new (Done i) → (bs : BallReadings) {out now : List ℕ} {j : ℕ} → UseKept (use_of f g new bs) out now (Done j)
+  pub lent_honest : {i : ℕ} → CardKept a g old new (Ok i) → (bs : BallReadings) {out now : List ℕ} {j : ℕ} → UseKept (use_of f g new bs) out now (Ok j)
       → HoldsAround f (take f.header.outputs now) (ball_kind.values bs)
   lent_honest kept bs {out} {now} given =
       let c = card_done kept.says in

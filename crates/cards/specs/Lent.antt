@@ -2,7 +2,7 @@
 -- on a refusal every list keeps its contents. What is told is the number of outputs, as of a run.
 use Rattle.std.specs.Prelude.{◌≡◌, List, [], ℕ, pos, length}
 use Rattle.lists.specs.Over.{over}
-use Rattle.refusals.specs.declared.Reply.{Reply}
+use Rattle.refusals.specs.Said.{Reply}
 use Rattle.refusals.specs.Answer.{Answer, value, refused}
 use Rattle.refusals.specs.Places.{Placed}
 use Rattle.refusals.specs.Said.{Said, answered, refuses, reply_said}

@@ -23,7 +23,7 @@ pub fn margins_ball_doubles(
         (chart_lent (ball_lists work_centres.new work_margins.new)
         (chart_lists output_centres.new output_margins.new)) result }
 {
-    let r = charts::run(
+    replied(charts::run(
         bytes,
         centres,
         margins,
@@ -31,6 +31,5 @@ pub fn margins_ball_doubles(
         work_margins,
         output_centres,
         output_margins,
-    );
-    replied(r)
+    ))
 }

@@ -1,18 +1,22 @@
 -- The chart's run in the code's shape: it is the ball run in lists that are long enough, then the doubles of its outputs. Assumes nothing.
-use mathlib.Core.Path.{◌≡◌, refl, sym, ◌∙◌, ap, ap₂, subst}
+use mathlib.Core.Path.{◌≡◌, refl, sym, ◌∙◌, ap, subst}
 use mathlib.Core.List.{List}
 use Prim.Native.Nat.{ℕ, ◌≤◌}
 use native.Mathlib.Omega.{arith}
 use lib.Ieee.{Float}
 use lib.IntN.{ℤ}
 use lib.ListN.{length, get_or, length-map}
+use Rattle.std.specs.declared.result.Result.TheVariants.{Ok, Err}
+use Rattle.std.specs.Prelude.{IsErrAnd}
+use Rattle.refusals.proofs.OneReply.{passed_on}
+use Rattle.refusals.specs.Places.{because}
+use Rattle.refusals.specs.declared.Refused.{Refused}
 use Rattle.whole.proofs.Cases.{by_case}
 use Rattle.lists.specs.Over.{least}
 use Rattle.lists.proofs.Over.{both_least}
 use Rattle.lists.specs.All.{All}
 use Rattle.refusals.specs.declared.Refusal.{Refusal}
-use Rattle.refusals.specs.declared.Reply.{Reply}
-use Rattle.refusals.specs.declared.Reply.TheVariants.{Done, Refused}
+use Rattle.refusals.specs.Said.{Reply}
 use Rattle.refusals.specs.Answer.{value, refused}
 use Rattle.refusals.specs.Places.{Placed, refuse_at}
 use Rattle.refusals.specs.Said.{answered, reply_said}
@@ -25,23 +29,22 @@ use Rattle.formulas.specs.declared.Header.{Header}
 use Rattle.formulas.specs.Formula.{Formula, WellFormed}
 use Rattle.formulas.specs.Readings.{BallReadings}
 use Rattle.formulas.specs.Kinds.{ball_kind}
-use Rattle.formulas.specs.Job.{Started, start, Result, refused_first, stopped_at, done, job, work_of, outputs_of, said, lent, lent_job, Kept}
+use Rattle.formulas.specs.Job.{Started, start, Result, refused_first, stopped_at, done, work_of, outputs_of, said, lent, lent_job, Kept}
 use Rattle.formulas.proofs.Lawful.{ball_lawful}
 use Rattle.formulas.proofs.Jobs.{Starts, starts, start_is, job_refused, job_started, Does, does, refused_outputs}
 use Rattle.formulas.proofs.Legal.{outputs_legal}
 use Rattle.packed.specs.Meaning.{formula, meant}
 use Rattle.packed.proofs.WellFormed.{accepted_well_formed}
 use Rattle.packed.proofs.Formed.{meant_is}
-use Rattle.running.specs.declared.Start.{Start}
-use Rattle.running.specs.declared.Start.TheVariants as start
+use Rattle.running.specs.Ready.{Start}
 use Rattle.running.specs.Ready as ready
 use Rattle.running.specs.Ready.{start_says, started_header, Ready}
 use Rattle.charts.specs.Charts.{ChartLists, chart_lists, chart_room, HoldDoubles, chart_lent, chart_job, Charted, Begins, Drawable, Draws}
 
 -- a refusal leaves the chart alone
 charted_refused : {s : List ℕ} {given : BallReadings} {work new : BallLists} {chart : ChartLists} {j : Result Ball} {q : Refusal} {k : ℕ}
-    → j ≡ chart_job s given (chart_lent work chart) → reply_said (Refused q k) ≡ said j → ball_kind.Holds (work_of j) work new
-    → Charted s given (chart_lent work chart) (chart_lent new chart) (Refused q k)
+    → j ≡ chart_job s given (chart_lent work chart) → reply_said (Err (because q k)) ≡ said j → ball_kind.Holds (work_of j) work new
+    → Charted s given (chart_lent work chart) (chart_lent new chart) (Err (because q k))
 charted_refused {s} {given} {work} {new} {chart} {j} {q} {k} e u h =
     record {
       says = u ∙ ap said e;
@@ -52,22 +55,23 @@ charted_refused {s} {given} {work} {new} {chart} {j} {q} {k} e u h =
     }
 
 -- what a run does next, in lists with so many places
-module _ {s : List ℕ} {given : BallReadings} (wc : List ℤ) (wm : List ℕ) (oc om : List Float) {work output : ℕ} {r : Start}
-    (ready : Ready ball_kind s given work output r) (w : work ≡ least (length wc) (length wm)) (o : output ≡ least (length oc) (length om)) where
+module _ {s : List ℕ} {given : BallReadings} (wc : List ℤ) (wm : List ℕ) (oc om : List Float) {output : ℕ} {r : Start}
+    (ready : Ready ball_kind s given (ball_kind.room (ball_lists wc wm)) output r) (o : output ≡ least (length oc) (length om)) where
   starts_on : start_says r ≡ started_header ball_kind (start ball_kind (formula s) given (least (length wc) (length wm)) (least (length oc) (length om)))
-  starts_on = ready.answers ∙ ap₂ (λ (m n : ℕ). started_header ball_kind (start ball_kind (formula s) given m n)) w o
+  starts_on = ready.answers ∙ ap (λ (n : ℕ). started_header ball_kind (start ball_kind (formula s) given (least (length wc) (length wm)) n)) o
 
-  pub chart_begins : {h : Header} → r ≡ start.On h → Begins s h given (chart_lent (ball_lists wc wm) (chart_lists oc om))
+  pub chart_begins : {h : Header} → r ≡ Ok h → Begins s h given (chart_lent (ball_lists wc wm) (chart_lists oc om))
   chart_begins t = record { starts_with = by_case start_says starts_on t }
 
-  pub chart_refused : {q : Refusal} {k : ℕ} → r ≡ start.Refused q k
-      → Charted s given (chart_lent (ball_lists wc wm) (chart_lists oc om)) (chart_lent (ball_lists wc wm) (chart_lists oc om)) (Refused q k)
-  chart_refused {q} {k} t =
+  pub chart_refused : {e : Refused} {q : Reply} → r ≡ Err e → IsErrAnd q (λ x. x ≡ e)
+      → Charted s given (chart_lent (ball_lists wc wm) (chart_lists oc om)) (chart_lent (ball_lists wc wm) (chart_lists oc om)) q
+  chart_refused {e} t u =
       let e = unstarted (start ball_kind (formula s) given (least (length wc) (length wm)) (least (length oc) (length om))) (by_case start_says starts_on t) in
-      charted_refused (sym (job_refused ball_kind (formula s) given (least (length wc) (length wm)) (least (length oc) (length om)) e)) refl
-      (ball_lawful.holds_none (ball_lists wc wm))
+      subst (Charted s given (chart_lent (ball_lists wc wm) (chart_lists oc om)) (chart_lent (ball_lists wc wm) (chart_lists oc om))) (sym (passed_on u))
+      (charted_refused (sym (job_refused ball_kind (formula s) given (least (length wc) (length wm)) (least (length oc) (length om)) e)) refl
+      (ball_lawful.holds_none (ball_lists wc wm)))
     where
-      unstarted : (a : Placed (Started ball_kind)) → started_header ball_kind a ≡ refuse_at q k → a ≡ refuse_at q k
+      unstarted : (a : Placed (Started ball_kind)) → started_header ball_kind a ≡ refuse_at e.why e.place → a ≡ refuse_at e.why e.place
       unstarted (value st) e = absurd (no_value (sym e))
       unstarted (refused n) e = same_refusal e
 
@@ -118,7 +122,7 @@ module _ {s : List ℕ} {h : Header} {given : BallReadings} {work : BallLists} {
       job_started ball_kind (formula s) given (ball_kind.room work) (ball_kind.room local) begun_inside
       ∙ sym (job_started ball_kind (formula s) given (ball_kind.room work) (chart_room chart) b.begun)
 
-  module _ {new local₁ : BallLists} {n : ℕ} (k : Kept ball_kind (formula s) given (lent ball_kind work local) (lent ball_kind new local₁) (Done n)) where
+  module _ {new local₁ : BallLists} {n : ℕ} (k : Kept ball_kind (formula s) given (lent ball_kind work local) (lent ball_kind new local₁) (Ok n)) where
     ended : (chart_job s given (chart_lent work chart) ≡ done (made s given work chart) (outs s given work chart))
         × (length (outs s given work chart) ≡ n)
     ended = answers_done (chart_job s given (chart_lent work chart)) (k.says ∙ ap said same_job)
@@ -150,7 +154,7 @@ module _ {s : List ℕ} {h : Header} {given : BallReadings} {work : BallLists} {
           room = omega (arith, as_many, b.started.output_room);
         }
 
-    charted_done : {drawn : ChartLists} → Draws h.scale n local₁ chart drawn → Charted s given (chart_lent work chart) (chart_lent new drawn) (Done n)
+    charted_done : {drawn : ChartLists} → Draws h.scale n local₁ chart drawn → Charted s given (chart_lent work chart) (chart_lent new drawn) (Ok n)
     charted_done {drawn} d =
         record {
           says = k.says ∙ ap said same_job;
@@ -174,16 +178,20 @@ module _ {s : List ℕ} {h : Header} {given : BallReadings} {wc : List ℤ} {wm 
 
   module _ {nc xs₁ : List ℤ} {nm ys₁ : List ℕ} {r : Reply}
       (k : Kept ball_kind (formula s) given (lent ball_kind (ball_lists wc wm) (ball_lists xs ys)) (lent ball_kind (ball_lists nc nm) (ball_lists xs₁ ys₁)) r) where
-    pub local_refused : {f : Refusal} {i : ℕ} → r ≡ Refused f i → Begins s h given (chart_lent (ball_lists wc wm) (chart_lists oc om))
+    pub local_refused : {e : Refused} {q : Reply} → r ≡ Err e → IsErrAnd q (λ x. x ≡ e) → Begins s h given (chart_lent (ball_lists wc wm) (chart_lists oc om))
         → length xs ≡ 16 → length ys ≡ 16
-        → Charted s given (chart_lent (ball_lists wc wm) (chart_lists oc om)) (chart_lent (ball_lists nc nm) (chart_lists oc om)) (Refused f i)
-    local_refused t b p q = charted_refused (same_job (opened b) (ball_lists xs ys) (local_places xs ys p q)) (sym (ap reply_said t) ∙ k.says) k.works
+        → Charted s given (chart_lent (ball_lists wc wm) (chart_lists oc om)) (chart_lent (ball_lists nc nm) (chart_lists oc om)) q
+    local_refused t u b p q =
+        subst (Charted s given (chart_lent (ball_lists wc wm) (chart_lists oc om)) (chart_lent (ball_lists nc nm) (chart_lists oc om))) (sym (passed_on u))
+        (charted_refused (same_job (opened b) (ball_lists xs ys) (local_places xs ys p q)) (sym (ap reply_said t) ∙ k.says) k.works)
 
-    pub local_drawable : {n : ℕ} → r ≡ Done n → Begins s h given (chart_lent (ball_lists wc wm) (chart_lists oc om)) → length xs ≡ 16 → length ys ≡ 16
+    pub local_drawable : {n : ℕ} → r ≡ Ok n → Begins s h given (chart_lent (ball_lists wc wm) (chart_lists oc om)) → length xs ≡ 16 → length ys ≡ 16
         → Drawable h.scale n (ball_lists xs₁ ys₁) (chart_lists oc om)
     local_drawable t b p q = drawable (opened b) (ball_lists xs ys) (local_places xs ys p q) (rw t at k)
 
-    pub local_charted : {n : ℕ} {dc dm : List Float} → Draws h.scale n (ball_lists xs₁ ys₁) (chart_lists oc om) (chart_lists dc dm) → r ≡ Done n
-        → Begins s h given (chart_lent (ball_lists wc wm) (chart_lists oc om)) → length xs ≡ 16 → length ys ≡ 16
-        → Charted s given (chart_lent (ball_lists wc wm) (chart_lists oc om)) (chart_lent (ball_lists nc nm) (chart_lists dc dm)) (Done n)
-    local_charted d t b p q = charted_done (opened b) (ball_lists xs ys) (local_places xs ys p q) (rw t at k) d
+  pub local_charted : {nc xs₁ : List ℤ} {nm ys₁ : List ℕ} {r : Reply} {n : ℕ} {dc dm : List Float}
+      → Draws h.scale n (ball_lists xs₁ ys₁) (chart_lists oc om) (chart_lists dc dm)
+      → Kept ball_kind (formula s) given (lent ball_kind (ball_lists wc wm) (ball_lists xs ys)) (lent ball_kind (ball_lists nc nm) (ball_lists xs₁ ys₁)) r
+      → r ≡ Ok n → Begins s h given (chart_lent (ball_lists wc wm) (chart_lists oc om)) → length xs ≡ 16 → length ys ≡ 16
+      → Charted s given (chart_lent (ball_lists wc wm) (chart_lists oc om)) (chart_lent (ball_lists nc nm) (chart_lists dc dm)) (Ok n)
+  local_charted d k t b p q = charted_done (opened b) (ball_lists xs ys) (local_places xs ys p q) (rw t at k) d

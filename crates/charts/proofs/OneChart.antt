@@ -2,9 +2,10 @@
 use mathlib.Core.Path.{◌≡◌, refl, sym, ◌∙◌, ap₂}
 use mathlib.Core.List.{List}
 use Prim.Native.Nat.{ℕ}
+use Rattle.std.specs.declared.result.Result.TheVariants.{Err}
+use Rattle.refusals.specs.Places.{because}
 use Rattle.refusals.specs.declared.Refusal.{Refusal}
-use Rattle.refusals.specs.declared.Reply.{Reply}
-use Rattle.refusals.specs.declared.Reply.TheVariants.{Refused}
+use Rattle.refusals.specs.Said.{Reply}
 use Rattle.refusals.proofs.OneReply.{one_reply}
 use Rattle.rules.specs.declared.Ball.{Ball}
 use Rattle.formulas.specs.Readings.{BallReadings}
@@ -25,7 +26,7 @@ chart_one_outcome {s} {given} {old} new₁ new₂ r t k l = (
 )
 
 -- "no pair is given then"
-pub refused_keeps_chart : {s : List ℕ} {given : BallReadings} {old new : ChartLent} {q : Refusal} {k : ℕ} → Charted s given old new (Refused q k)
+pub refused_keeps_chart : {s : List ℕ} {given : BallReadings} {old new : ChartLent} {q : Refusal} {k : ℕ} → Charted s given old new (Err (because q k))
     → new.chart ≡ old.chart
 refused_keeps_chart {s} {given} {old} {new} p =
     doubles_one new.chart old.chart (rw (refused_outputs (chart_job s given old) p.says) at p.draws) (record { centres_hold = refl; margins_hold = refl })

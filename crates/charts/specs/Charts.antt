@@ -3,7 +3,7 @@
 use Rattle.std.specs.Prelude.{◌≡◌, List, map, ℕ, ◌≤◌, Float, pos, length}
 use Rattle.lists.specs.Over.{over, least}
 use Rattle.lists.specs.All.{All}
-use Rattle.refusals.specs.declared.Reply.{Reply}
+use Rattle.refusals.specs.Said.{Reply}
 use Rattle.refusals.specs.Answer.{value}
 use Rattle.refusals.specs.Said.{reply_said}
 use Rattle.rules.specs.declared.Ball.{Ball}

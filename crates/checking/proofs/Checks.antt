@@ -2,8 +2,9 @@
 use mathlib.Core.Path.{◌≡◌, refl, sym, ◌∙◌, ap}
 use mathlib.Core.Bool.{Bool, true, false, cond}
 use mathlib.Core.List.{List}
-use Prim.Native.Nat.{ℕ, ◌+◌, ◌*◌, ◌^◌, ◌≤◌}
-use native.Mathlib.Omega.{arith}
+use Prim.Native.Nat.{ℕ, ◌+◌, ◌*◌}
+use Rattle.std.specs.declared.result.Result.{Result}
+use Rattle.std.specs.declared.result.Result.TheVariants.{Ok, Err}
 use Rattle.whole.proofs.Cases.{by_case}
 use Rattle.refusals.specs.declared.Refusal.{Refusal}
 use Rattle.refusals.specs.declared.Refusal.TheVariants as refusal
@@ -19,11 +20,10 @@ use Rattle.packed.specs.Items.{Form, done, read, ◌>>=◌}
 use Rattle.packed.specs.Format.{header, program, results, is_padding, widest}
 use Rattle.packed.specs.Meaning.{body, if_padded, formula, checked}
 use Rattle.packed.proofs.InTurn.{read_bind}
-use Rattle.heading.specs.declared.Passed.{Passed}
-use Rattle.heading.specs.declared.Passed.TheVariants as passed
+use Rattle.heading.specs.HeaderAnswers.{Passed}
 use Rattle.heading.specs.HeaderAnswers.{header_of}
 use Rattle.checking.specs.CheckAnswers.{passed_answer, place, body_checked, body_answer}
-use Rattle.heading.specs.HeaderAnswers.{WellHeaded, HeaderPassed}
+use Rattle.heading.specs.HeaderAnswers.{HeaderPassed}
 use Rattle.checking.specs.CheckAnswers.{PassedOver, BodyPassed}
 
 module _ (h : Header) where
@@ -76,29 +76,21 @@ module _ (h : Header) where
 
 module _ {s : List ℕ} (h : Header) {c : Cursor} {p : Passed}
     (a : PassedOver s (program h.scale h.instructions h.inputs) (widest * h.instructions) c p) where
-  pub program_stops : {r : Refusal} → p ≡ passed.Refused r → BodyPassed s h c p
+  pub program_stops : {r : Refusal} → p ≡ Err r → BodyPassed s h c (Err r)
   program_stops u =
       let e = by_case (passed_answer s) a.answers u in
-      rw u (record { answers = sym (body_in_places h (before s c) ∙ rw e) })
+      record { answers = sym (body_in_places h (before s c) ∙ rw e) }
 
-  module _ {d : Cursor} (u : p ≡ passed.At d) where
-    pub near_results : WellHeaded h c → d.at ≤ 2 ^ 20
-    near_results w = omega (arith, rw u at a.past, w.past, w.limits.instructions_few)
-
+  module _ {d : Cursor} (u : p ≡ Ok d) where
     module _ {q : Passed}
         (b : PassedOver s (results h.outputs (h.inputs + h.instructions)) (10 * h.outputs) d q) where
-      pub results_stop : {r : Refusal} → q ≡ passed.Refused r → BodyPassed s h c q
+      pub results_stop : {r : Refusal} → q ≡ Err r → BodyPassed s h c (Err r)
       results_stop v =
           let e = by_case (passed_answer s) a.answers u in
           let f = by_case (passed_answer s) b.answers v in
-          rw v (record { answers = sym (body_in_places h (before s c) ∙ rw (e, f)) })
+          record { answers = sym (body_in_places h (before s c) ∙ rw (e, f)) }
 
-      module _ {e : Cursor} (v : q ≡ passed.At e) where
-        pub near_padding : WellHeaded h c → e.at ≤ 2 ^ 20
-        near_padding w =
-            let l = w.limits in
-            omega (arith, rw u at a.past, rw v at b.past, w.past, l.instructions_few, l.outputs_few)
-
+      module _ {e : Cursor} (v : q ≡ Ok e) where
         after_all : {t g : Bool} → g ≡ is_padding (before s e) → g ≡ t
             → cond t (value h) (refuse refusal.Padding) ≡ body_checked h (before s c)
         after_all m k =
@@ -106,11 +98,11 @@ module _ {s : List ℕ} (h : Header) {c : Cursor} {p : Passed}
             let f = by_case (passed_answer s) b.answers v in
             sym (body_in_places h (before s c) ∙ rw (e, f, sym m ∙ k))
 
-        pub padding_passes : {g : Bool} → g ≡ is_padding (before s e) → g ≡ true → BodyPassed s h c (passed.At e)
+        pub padding_passes : {g : Bool} → g ≡ is_padding (before s e) → g ≡ true → BodyPassed s h c (Ok tt)
         padding_passes m k = record { answers = after_all m k }
 
         pub padding_stops : {g : Bool} → g ≡ is_padding (before s e) → g ≡ false
-            → BodyPassed s h c (passed.Refused refusal.Padding)
+            → BodyPassed s h c (Err refusal.Padding)
         padding_stops m k = record { answers = after_all m k }
 
 -- ---- the whole check
@@ -128,19 +120,16 @@ checked_in_turn s =
     by_header (refused n) = refl
 
 module _ (s : List ℕ) (x : ℕ) {p : Passed} (a : HeaderPassed s x p) where
-  pub header_stops : {r : Refusal} → p ≡ passed.Refused r → refuse r ≡ checked s
+  pub header_stops : {r : Refusal} → p ≡ Err r → refuse r ≡ checked s
   header_stops u = let b = rw u at a in sym (checked_in_turn s ∙ rw b.is)
 
-  module _ {h : Header} {c : Cursor} (u : p ≡ passed.At c) (e : h ≡ header_of x) where
-    pub well_headed : WellHeaded h c
-    well_headed = let b = rw u at a in rw e b.well
-
-    module _ {q : Passed} (d : BodyPassed s h c q) where
+  module _ {h : Header} {c : Cursor} (u : p ≡ Ok c) (e : h ≡ header_of x) where
+    module _ {q : Result (Unit {0}) Refusal} (d : BodyPassed s h c q) where
       through : body_answer h q ≡ checked s
       through = let b = rw u at a in d.answers ∙ sym (checked_in_turn s ∙ rw (b.is, sym e))
 
-      pub body_stops : {r : Refusal} → q ≡ passed.Refused r → refuse r ≡ checked s
+      pub body_stops : {r : Refusal} → q ≡ Err r → refuse r ≡ checked s
       body_stops v = sym (by_case (body_answer h) through v)
 
-      pub body_passes : {f : Cursor} → q ≡ passed.At f → value h ≡ checked s
+      pub body_passes : {f : Unit {0}} → q ≡ Ok f → value h ≡ checked s
       body_passes v = sym (by_case (body_answer h) through v)

@@ -12,7 +12,8 @@ pub struct MarginsBall {
     pub margin: i64,
 }
 
-// The first records as two lists: a formula has at most 16 inputs, so 17 readings are too many whatever follows them.
+// The first records as two lists: a formula has at most 16 inputs, so 17 readings are too many whatever follows them. The
+// lists have a count beside them, since there is no heap here.
 #[derive(Clone, Copy)]
 pub struct Columns {
     pub centres: [i64; 17],
@@ -24,10 +25,7 @@ pub struct Columns {
 fn few(n: usize) -> usize
     ensures { AtMost17 n result }
 {
-    if n < 17 {
-        return n;
-    }
-    17
+    n.min(17)
 }
 
 fn none() -> Columns
@@ -46,26 +44,19 @@ fn add(l: Columns, x: MarginsBall) -> Columns
     ensures { Added l x result }
 {
     let mut r = l;
-    let i = l.count;
-    let c = x.centre;
-    let m = x.margin;
-    r.centres[i] = c;
-    r.margins[i] = m;
-    r.count = i + 1;
+    r.centres[l.count] = x.centre;
+    r.margins[l.count] = x.margin;
+    r.count = l.count + 1;
     r
 }
 
-// The borrow checker covers no slice of structs: this loop and the door over records are proved by a walk,
-// and all else stands in functions that it covers.
 pub fn columns_of(readings: &[MarginsBall]) -> Columns
     ensures { Columned result (take 17 readings.now) }
 {
     let n = few(readings.len());
     let mut l = none();
-    let mut i = 0;
-    while i < n {
+    for i in 0..n {
         l = add(l, readings[i]);
-        i = i + 1;
     }
     l
 }

@@ -7,9 +7,9 @@ use lib.IntN.{ℤ}
 use mir.Syntax.{w64}
 use mir.Val.{SFits}
 use mir.ValLaws.{to_z-of_z}
+use Rattle.std.specs.declared.result.Result.TheVariants.{Ok, Err}
 use Rattle.whole.proofs.Machine.{back}
-use Rattle.refusals.specs.declared.Reply.{Reply}
-use Rattle.refusals.specs.declared.Reply.TheVariants.{Done, Refused}
+use Rattle.refusals.specs.Said.{Reply}
 use Rattle.refusals.specs.Said.{reply_said}
 use Rattle.refusals.proofs.OneReply.{never_zero}
 use Rattle.rules.specs.declared.Ball.{Ball}
@@ -52,11 +52,11 @@ pub honest_out : {F d : ℤ} {b : Ball} {old new : OutLists} {r : MarginsPacked}
 honest_out {F} {d} {b} {old} {new} {r} x z = by_reply x.reply refl
   where
     by_reply : (q : Reply) → x.reply ≡ q → OutAssures F d b new r.bytes
-    by_reply (Done n) e =
+    by_reply (Ok n) e =
         subst (OutAssures F d b new) (sym (ap (λ (p : MarginsPacked). p.bytes) (x.tells ∙ ap (λ q. margins_packed (reply_said q)) e)))
         (out_honest (subst (ToDecimal F d b old new) e x.job))
-    by_reply (Refused why k) e =
-        absurd (never_zero why (sym (ap (λ (p : MarginsPacked). p.refusal) (x.tells ∙ ap (λ q. margins_packed (reply_said q)) e)) ∙ z))
+    by_reply (Err why) e =
+        absurd (never_zero why.why (sym (ap (λ (p : MarginsPacked). p.refusal) (x.tells ∙ ap (λ q. margins_packed (reply_said q)) e)) ∙ z))
 
 -- ---- in
 
@@ -80,8 +80,8 @@ pub honest_in : {F : ℤ} {number margin : List ℕ} {old new : InLists} {r : Ma
 honest_in {F} {number} {margin} {old} {new} {r} x z = by_reply x.reply refl
   where
     by_reply : (q : Reply) → x.reply ≡ q → InAssures F number margin new r.outputs
-    by_reply (Done n) e =
+    by_reply (Ok n) e =
         subst (InAssures F number margin new) (sym (ap (λ (p : MarginsReply). p.outputs) (x.tells ∙ ap (λ q. margins_reply (reply_said q)) e)))
         (in_honest (subst (FromDecimal F number margin old new) e x.job))
-    by_reply (Refused why k) e =
-        absurd (never_zero why (sym (ap (λ (p : MarginsReply). p.refusal) (x.tells ∙ ap (λ q. margins_reply (reply_said q)) e)) ∙ z))
+    by_reply (Err why) e =
+        absurd (never_zero why.why (sym (ap (λ (p : MarginsReply). p.refusal) (x.tells ∙ ap (λ q. margins_reply (reply_said q)) e)) ∙ z))

@@ -1,6 +1,6 @@
 -- What C sees of decimals out and in: the job's reply as a struct, and every place of the lent lists.
 use Rattle.std.specs.Prelude.{◌≡◌, List, ℕ, ℤ}
-use Rattle.refusals.specs.declared.Reply.{Reply}
+use Rattle.refusals.specs.Said.{Reply}
 use Rattle.refusals.specs.Said.{reply_said}
 use Rattle.rules.specs.declared.Ball.{Ball}
 use Rattle.replies.specs.declared.MarginsPacked.{MarginsPacked}

@@ -24,8 +24,7 @@ pub fn margins_to_decimal(
         (out_lists centres.new margins.new text.new) result }
 {
     let b = Ball { centre, margin };
-    let r = to_decimal(scale, decimals, b, centres, margins, text);
-    packed_told(r)
+    packed_told(to_decimal(scale, decimals, b, centres, margins, text))
 }
 
 pub fn margins_from_decimal(
@@ -39,6 +38,5 @@ pub fn margins_from_decimal(
         (in_lists centres.old margins.old)
         (in_lists centres.new margins.new) result }
 {
-    let r = from_decimal(scale, number, margin, centres, margins);
-    replied(r)
+    replied(from_decimal(scale, number, margin, centres, margins))
 }

@@ -6,14 +6,14 @@ use Prim.Native.Nat.{ℕ, ◌^◌, ◌≤◌, ◌<◌}
 use native.Mathlib.Omega.{arith}
 use lib.IntN.{ℤ, pos, nat_abs}
 use lib.ListN.{length, take}
+use Rattle.std.specs.declared.result.Result.TheVariants.{Ok}
 use Rattle.whole.proofs.Limits.{natural}
 use Rattle.lists.specs.Over.{over}
 use Rattle.lists.proofs.Over.{over_front}
-use Rattle.refusals.specs.declared.Reply.TheVariants as reply
 use Rattle.rules.specs.declared.Ball.{Ball}
 use Rattle.rules.specs.Numbers.{M}
 use Rattle.rules.specs.Values.{ball_reach}
-use Rattle.numerals.specs.Decimals.{Decimal}
+use Rattle.numerals.specs.declared.Decimal.{Decimal}
 use Rattle.decimals.specs.Out.{Countable, out}
 use Rattle.decimals.specs.In.{into}
 use Rattle.decimals.proofs.Out.{out_near, out_least, out_exact, out_fits}
@@ -33,10 +33,10 @@ record Printed (F d : ℤ) (b : Ball) (front : OutLists) (n : ℕ) : Type 0 wher
   front_is : front ≡ decimals_out (nat_abs F) (nat_abs d) b
   bytes_are : n ≡ length (text_of (nat_abs F) (nat_abs d) b)
 
-of_print : {lent : OutLists} {F d : ℤ} {b : Ball} {front : OutLists} {n : ℕ} → Asked F d b → Prints lent (nat_abs F) (nat_abs d) b (reply.Done n) front → Printed F d b front n
+of_print : {lent : OutLists} {F d : ℤ} {b : Ball} {front : OutLists} {n : ℕ} → Asked F d b → Prints lent (nat_abs F) (nat_abs d) b (Ok n) front → Printed F d b front n
 of_print a (Prints.done e) = record { asked = a; front_is = refl; bytes_are = refl }
 
-of_shown : {lent front : OutLists} {F d : ℤ} {b : Ball} {n : ℕ} → Shows lent F d b (reply.Done n) front → Printed F d b front n
+of_shown : {lent front : OutLists} {F d : ℤ} {b : Ball} {n : ℕ} → Shows lent F d b (Ok n) front → Printed F d b front n
 of_shown (Shows.asked a p) = of_print a p
 
 countable : {F d : ℤ} {b : Ball} → Asked F d b → Countable (nat_abs F) (nat_abs d) b
@@ -47,22 +47,22 @@ countable {F} {d} a =
       legal = a.legal;
     }
 
-pub out_honest : {F d : ℤ} {b : Ball} {old new : OutLists} {n : ℕ} → ToDecimal F d b old new (reply.Done n) → OutAssures F d b new n
+pub out_honest : {F d : ℤ} {b : Ball} {old new : OutLists} {n : ℕ} → ToDecimal F d b old new (Ok n) → OutAssures F d b new n
 out_honest {F} {d} {b} {old} {new} {n} x =
     let p = of_shown x.answers in
     let k = countable p.asked in
     let c = out (nat_abs F) (nat_abs d) b in
     let fits = out_fits k in
     let text_is : take n new.text ≡ text_of (nat_abs F) (nat_abs d) b =
-    ap (take n) (x.writes_text ∙ ap (λ (l : OutLists). over l.text old.text) p.front_is) ∙ over_front (text_of (nat_abs F) (nat_abs d) b) old.text (sym p.bytes_are) in
+    ap (take n) (ap (λ (l : OutLists). l.text) x.writes ∙ ap (λ (l : OutLists). over l.text old.text) p.front_is) ∙ over_front (text_of (nat_abs F) (nat_abs d) b) old.text (sym p.bytes_are) in
     record {
       centre = c.centre;
       margin = c.margin;
       centre_there =
-          ap (take 1) (x.writes_centres ∙ ap (λ (l : OutLists). over l.centres old.centres) p.front_is)
+          ap (take 1) (ap (λ (l : OutLists). l.centres) x.writes ∙ ap (λ (l : OutLists). over l.centres old.centres) p.front_is)
           ∙ over_front (c.centre ∷ []) old.centres refl;
       margin_there =
-          ap (take 1) (x.writes_margins ∙ ap (λ (l : OutLists). over l.margins old.margins) p.front_is)
+          ap (take 1) (ap (λ (l : OutLists). l.margins) x.writes ∙ ap (λ (l : OutLists). over l.margins old.margins) p.front_is)
           ∙ over_front (c.margin ∷ []) old.margins refl;
       encloses = λ y e. out_near (nat_abs F) (nat_abs d) e;
       least = out_least (nat_abs F) (nat_abs d) b;
@@ -91,17 +91,17 @@ record Put (F : ℤ) (number margin : List ℕ) (front : InLists) (n : ℕ) : Ty
   legal : ball_reach (into (nat_abs F) y m) ≤ M
   front_is : front ≡ reading_in (into (nat_abs F) y m)
 
-of_put : {lent : InLists} {b : Ball} {front : InLists} {n : ℕ} → Puts lent b (reply.Done n) front → (n ≡ 1) × (front ≡ reading_in b)
+of_put : {lent : InLists} {b : Ball} {front : InLists} {n : ℕ} → Puts lent b (Ok n) front → (n ≡ 1) × (front ≡ reading_in b)
 of_put (Puts.done e) = (refl, refl)
 
 of_margin : {lent front : InLists} {F : ℤ} {number margin : List ℕ} {y : Decimal ℤ} {n : ℕ} → read number ≡ some y
-    → FromNumber lent (nat_abs F) y margin (reply.Done n) front → Put F number margin front n
+    → FromNumber lent (nat_abs F) y margin (Ok n) front → Put F number margin front n
 of_margin {y = y} e (FromNumber.legal {m} f l p) = record { one = (of_put p).0; y = y; m = m; says_number = e; says_margin = f; legal = l; front_is = (of_put p).1 }
 
-of_read : {lent front : InLists} {F : ℤ} {number margin : List ℕ} {n : ℕ} → Reads lent F number margin (reply.Done n) front → Put F number margin front n
+of_read : {lent front : InLists} {F : ℤ} {number margin : List ℕ} {n : ℕ} → Reads lent F number margin (Ok n) front → Put F number margin front n
 of_read (Reads.says e f p) = of_margin f p
 
-pub in_honest : {F : ℤ} {number margin : List ℕ} {old new : InLists} {n : ℕ} → FromDecimal F number margin old new (reply.Done n) → InAssures F number margin new n
+pub in_honest : {F : ℤ} {number margin : List ℕ} {old new : InLists} {n : ℕ} → FromDecimal F number margin old new (Ok n) → InAssures F number margin new n
 in_honest {F} {old = old} {new} x =
     let p = of_read x.answers in
     let b = into (nat_abs F) p.y p.m in
@@ -113,10 +113,10 @@ in_honest {F} {old = old} {new} x =
       says_margin = p.says_margin;
       reading = b;
       centre_there =
-          ap (take 1) (x.writes_centres ∙ ap (λ (l : InLists). over l.centres old.centres) p.front_is)
+          ap (take 1) (ap (λ (l : InLists). l.centres) x.writes ∙ ap (λ (l : InLists). over l.centres old.centres) p.front_is)
           ∙ over_front (b.centre ∷ []) old.centres refl;
       margin_there =
-          ap (take 1) (x.writes_margins ∙ ap (λ (l : InLists). over l.margins old.margins) p.front_is)
+          ap (take 1) (ap (λ (l : InLists). l.margins) x.writes ∙ ap (λ (l : InLists). over l.margins old.margins) p.front_is)
           ∙ over_front (pos b.margin ∷ []) old.margins refl;
       legal = p.legal;
       encloses = λ y e. in_contains (nat_abs F) e;

@@ -1,8 +1,7 @@
 -- The laws of the two jobs, one subject a file.
-pub mod Legal
-pub mod Rooms
-pub mod Printing
+pub mod Lent
 pub mod Asking
+pub mod Showing
 pub mod Reading
 pub mod OneDecimal
 pub mod Assured

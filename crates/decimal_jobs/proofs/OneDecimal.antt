@@ -1,31 +1,46 @@
 -- Each answer is given exactly when its words say, and two outcomes of a job are equal. Assumes nothing.
-use mathlib.Core.Path.{◌≡◌, refl, sym, ◌∙◌, ap, ap₂, subst}
+use mathlib.Core.Path.{◌≡◌, refl, sym, ◌∙◌, ap, subst}
 use mathlib.Core.Bool.{Bool, true, false}
 use mathlib.Core.List.{List}
 use mathlib.Core.Logic.{◌↔◌}
-use mathlib.Core.Option.{Option, none, some}
+use mathlib.Core.Option.{Option, some}
 use Prim.Native.Nat.{ℕ, ◌≤◌, ◌<◌}
 use native.Mathlib.Omega.{arith}
 use lib.IntN.{ℤ, nat_abs}
 use Rattle.whole.proofs.Cases.{never}
-use Rattle.lists.specs.Over.{over}
 use Rattle.refusals.specs.declared.Refusal.TheVariants as refusal
-use Rattle.refusals.specs.declared.Reply.{Reply}
-use Rattle.refusals.specs.declared.Reply.TheVariants as reply
+use Rattle.refusals.specs.Said.{Reply}
+use Rattle.std.specs.declared.result.Result.TheVariants.{Err}
+use Rattle.refusals.specs.Places.{because}
 use Rattle.rules.specs.declared.Ball.{Ball}
 use Rattle.rules.specs.Numbers.{M}
 use Rattle.rules.specs.Values.{ball_reach}
-use Rattle.numerals.specs.Decimals.{Decimal}
+use Rattle.numerals.specs.declared.Decimal.{Decimal}
 use Rattle.decimals.specs.In.{into}
-use Rattle.decimal_texts.specs.Places.{Misplaced, Legal}
-use Rattle.decimal_texts.specs.Texts.{read, read_unsigned}
+use Rattle.decimal_texts.specs.Places.{Misplaced}
 use Rattle.decimal_texts.proofs.Places.{one_misplaced, never_both}
-use Rattle.decimal_jobs.specs.Out.{OutLists, Prints, Shows, Leaves, ToDecimal}
-use Rattle.decimal_jobs.specs.In.{InLists, Puts, FromNumber, Reads, Fills, FromDecimal}
+use Rattle.decimal_jobs.specs.Lent.{Leaves}
+use Rattle.decimal_jobs.specs.Out.{OutLists, Prints, Shows, ToDecimal}
+use Rattle.decimal_jobs.specs.In.{InLists, Puts, FromNumber, Reads, FromDecimal}
 
 -- the same answer, and the same written in front
 abbrev Alike : {L : Type 0} → Reply → L → Reply → L → Type 0
 Alike r front q behind = (r ≡ q) × (front ≡ behind)
+
+-- where the words give one answer, a job has one outcome
+abbrev OneAnswer : {L : Type 0} → (L → Reply → L → Type 0) → L → Type 0
+OneAnswer {L} Answers old = (r q : Reply) (front behind : L) → Answers old r front → Answers old q behind → Alike r front q behind
+
+module _ {L : Type 0} {put : L → L → L} {Answers : L → Reply → L → Type 0} {old : L} where
+  exactly : {new : L} {q : Reply} → Leaves put Answers old new q → OneAnswer Answers old → (r : Reply)
+      → (q ≡ r) ↔ ((front : L) × Answers old r front)
+  exactly x one r = (λ e. (x.front, subst (λ s. Answers old s x.front) e x.answers), λ a. (one _ _ _ _ x.answers a.1).0)
+
+  one_outcome : {new₁ new₂ : L} {r q : Reply} → Leaves put Answers old new₁ r → Leaves put Answers old new₂ q → OneAnswer Answers old
+      → (r ≡ q) × (new₁ ≡ new₂)
+  one_outcome x y one =
+      let e = one _ _ _ _ x.answers y.answers in
+      (e.0, x.writes ∙ ap (λ l. put l old) e.1 ∙ sym y.writes)
 
 apart : {A : Type 0} {t : Bool} → t ≡ true → t ≡ false → A
 apart e f = never (sym e ∙ f)
@@ -63,20 +78,11 @@ module _ {lent : OutLists} where
 -- the reply is r exactly when r is the answer that the words give
 pub out_exactly : {F d : ℤ} {b : Ball} {old new : OutLists} {q : Reply} → ToDecimal F d b old new q → (r : Reply)
     → (q ≡ r) ↔ ((front : OutLists) × Shows old F d b r front)
-out_exactly {F} {d} {b} {old} x r =
-    (λ e. (x.front, subst (λ s. Shows old F d b s x.front) e x.answers), λ a. (one_shown x.answers a.1).0)
+out_exactly x r = exactly x (λ s q f g. one_shown) r
 
 pub out_one_outcome : {F d : ℤ} {b : Ball} {old new₁ new₂ : OutLists} {r q : Reply} → ToDecimal F d b old new₁ r → ToDecimal F d b old new₂ q
     → (r ≡ q) × (new₁ ≡ new₂)
-out_one_outcome {old = old} x y =
-    let e = one_shown x.answers y.answers in (
-      e.0,
-      λ i. record {
-        centres = (x.writes_centres ∙ ap (λ (l : OutLists). over l.centres old.centres) e.1 ∙ sym y.writes_centres) i;
-        margins = (x.writes_margins ∙ ap (λ (l : OutLists). over l.margins old.margins) e.1 ∙ sym y.writes_margins) i;
-        text = (x.writes_text ∙ ap (λ (l : OutLists). over l.text old.text) e.1 ∙ sym y.writes_text) i;
-      },
-    )
+out_one_outcome x y = one_outcome x y (λ s q f g. one_shown)
 
 -- ---- in
 
@@ -99,7 +105,7 @@ module _ {lent : InLists} where
 
   module _ {F : ℕ} {y : Decimal ℤ} {s : List ℕ} where
     one_margin : {r q : Reply} {front behind : InLists} → FromNumber lent F y s r front → FromNumber lent F y s q behind → Alike r front q behind
-    one_margin (FromNumber.twenty_five w) (FromNumber.twenty_five v) = (ap (reply.Refused refusal.MarginText) (one_misplaced w v), refl)
+    one_margin (FromNumber.twenty_five w) (FromNumber.twenty_five v) = (ap (λ p. Err (because refusal.MarginText p)) (one_misplaced w v), refl)
     one_margin (FromNumber.twenty_five w) (FromNumber.twenty_six e l) = wrong_not_said w e
     one_margin (FromNumber.twenty_five w) (FromNumber.legal e l p) = wrong_not_said w e
     one_margin (FromNumber.twenty_six e l) (FromNumber.twenty_five w) = wrong_not_said w e
@@ -115,7 +121,7 @@ module _ {lent : InLists} where
   one_read (Reads.three e) (Reads.twenty_four f w) = apart f e
   one_read (Reads.three e) (Reads.says f g n) = apart f e
   one_read (Reads.twenty_four e w) (Reads.three f) = apart e f
-  one_read (Reads.twenty_four e w) (Reads.twenty_four f v) = (ap (reply.Refused refusal.NumberText) (one_misplaced w v), refl)
+  one_read (Reads.twenty_four e w) (Reads.twenty_four f v) = (ap (λ p. Err (because refusal.NumberText p)) (one_misplaced w v), refl)
   one_read (Reads.twenty_four e w) (Reads.says f g n) = wrong_not_said w g
   one_read (Reads.says e g n) (Reads.three f) = apart e f
   one_read (Reads.says e g n) (Reads.twenty_four f w) = wrong_not_said w g
@@ -124,16 +130,8 @@ module _ {lent : InLists} where
 
 pub in_exactly : {F : ℤ} {s t : List ℕ} {old new : InLists} {q : Reply} → FromDecimal F s t old new q → (r : Reply)
     → (q ≡ r) ↔ ((front : InLists) × Reads old F s t r front)
-in_exactly {F} {s} {t} {old} x r =
-    (λ e. (x.front, subst (λ u. Reads old F s t u x.front) e x.answers), λ a. (one_read x.answers a.1).0)
+in_exactly x r = exactly x (λ u q f g. one_read) r
 
 pub in_one_outcome : {F : ℤ} {s t : List ℕ} {old new₁ new₂ : InLists} {r q : Reply} → FromDecimal F s t old new₁ r → FromDecimal F s t old new₂ q
     → (r ≡ q) × (new₁ ≡ new₂)
-in_one_outcome {old = old} x y =
-    let e = one_read x.answers y.answers in (
-      e.0,
-      λ i. record {
-        centres = (x.writes_centres ∙ ap (λ (l : InLists). over l.centres old.centres) e.1 ∙ sym y.writes_centres) i;
-        margins = (x.writes_margins ∙ ap (λ (l : InLists). over l.margins old.margins) e.1 ∙ sym y.writes_margins) i;
-      },
-    )
+in_one_outcome x y = one_outcome x y (λ u q f g. one_read)

@@ -3,7 +3,8 @@ use Rattle.std.specs.Prelude.{◌≡◌, List, [], ◌∷◌, ℕ, ◌≤◌, �
 use Rattle.std.proofs.Math.Option.{some}
 use Rattle.rules.specs.declared.Ball.{Ball}
 use Rattle.rules.specs.Values.{Fraction, Contains, IsBall}
-use Rattle.numerals.specs.Decimals.{Decimal, decimal}
+use Rattle.numerals.specs.declared.Decimal.{Decimal}
+use Rattle.numerals.specs.Decimals.{decimal}
 use Rattle.decimals.specs.Units.{Within}
 use Rattle.decimals.specs.Out.{NothingLost}
 use Rattle.decimal_texts.specs.Texts.{most_digits, figures, text, unsigned_text, decimal_ball, ball_means, read_ball, read, read_unsigned}

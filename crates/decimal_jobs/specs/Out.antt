@@ -1,17 +1,19 @@
 -- Out: "A ball (c, r) at scale F and a number of decimals d from 0 to 9, to a decimal centre and a decimal margin", "as
 -- numbers, and as text". Each answer of the job, given exactly when, and what it leaves in the lent lists.
 use Rattle.std.specs.Prelude.{◌≡◌, Bool, true, false, List, [], ◌∷◌, ℕ, ◌≤◌, ◌<◌, ℤ, nat_abs, length}
+use Rattle.std.specs.declared.result.Result.TheVariants.{Ok, Err}
+use Rattle.refusals.specs.Places.{because}
 use Rattle.whole.specs.Limits.{is_below}
 use Rattle.lists.specs.Over.{over}
 use Rattle.refusals.specs.declared.Refusal.TheVariants as refusal
-use Rattle.refusals.specs.declared.Reply.{Reply}
-use Rattle.refusals.specs.declared.Reply.TheVariants as reply
+use Rattle.refusals.specs.Said.{Reply}
 use Rattle.rules.specs.declared.Ball.{Ball}
 use Rattle.rules.specs.Numbers.{M}
 use Rattle.rules.specs.Values.{ball_reach}
 use Rattle.decimals.specs.Out.{out}
 use Rattle.decimal_texts.specs.Texts.{ball_text}
 use Rattle.decimal_jobs.specs.Tests.{have_room}
+use Rattle.decimal_jobs.specs.Lent.{Leaves}
 
 -- the lists that are lent, one for the decimal centre, one for the decimal margin, one for the text of both
 pub record OutLists : Type 0 where
@@ -21,6 +23,11 @@ pub record OutLists : Type 0 where
 
 abbrev pub out_lists : List ℤ → List ℕ → List ℕ → OutLists
 out_lists centres margins text = record { centres = centres; margins = margins; text = text }
+
+-- one in front of the other
+abbrev pub put_out : OutLists → OutLists → OutLists
+put_out front old =
+    out_lists (over front.centres old.centres) (over front.margins old.margins) (over front.text old.text)
 
 -- what is written in front of each
 abbrev pub nothing_out : OutLists
@@ -38,8 +45,8 @@ has_room new old = have_room (length new.text) (length old.text) (length old.cen
 
 -- 10 when a list is too short, else both numbers and the text; the reply tells its bytes
 pub data Prints (lent : OutLists) (F d : ℕ) (b : Ball) : Reply → OutLists → Type 0 where
-  ten : has_room (decimals_out F d b) lent ≡ false → Prints lent F d b (reply.Refused refusal.NoRoom 0) nothing_out
-  done : has_room (decimals_out F d b) lent ≡ true → Prints lent F d b (reply.Done (length (text_of F d b))) (decimals_out F d b)
+  ten : has_room (decimals_out F d b) lent ≡ false → Prints lent F d b (Err (because refusal.NoRoom 0)) nothing_out
+  done : has_room (decimals_out F d b) lent ≡ true → Prints lent F d b (Ok (length (text_of F d b))) (decimals_out F d b)
 
 -- a scale from 0 to 30, a number of decimals from 0 to 9 and a legal ball
 pub record Asked (F d : ℤ) (b : Ball) : Type 0 where
@@ -49,21 +56,10 @@ pub record Asked (F d : ℤ) (b : Ball) : Type 0 where
 
 -- 3 for the scale, then 27 for the number of decimals, then 26 for a reach over M
 pub data Shows (lent : OutLists) (F d : ℤ) (b : Ball) : Reply → OutLists → Type 0 where
-  three : is_below 31 F ≡ false → Shows lent F d b (reply.Refused refusal.Scale 0) nothing_out
-  twenty_seven : is_below 31 F ≡ true → is_below 10 d ≡ false → Shows lent F d b (reply.Refused refusal.DecimalPlaces 0) nothing_out
-  twenty_six : is_below 31 F ≡ true → is_below 10 d ≡ true → M < ball_reach b → Shows lent F d b (reply.Refused refusal.BallReach 0) nothing_out
+  three : is_below 31 F ≡ false → Shows lent F d b (Err (because refusal.Scale 0)) nothing_out
+  twenty_seven : is_below 31 F ≡ true → is_below 10 d ≡ false → Shows lent F d b (Err (because refusal.DecimalPlaces 0)) nothing_out
+  twenty_six : is_below 31 F ≡ true → is_below 10 d ≡ true → M < ball_reach b → Shows lent F d b (Err (because refusal.BallReach 0)) nothing_out
   asked : {r : Reply} {front : OutLists} → Asked F d b → Prints lent (nat_abs F) (nat_abs d) b r front → Shows lent F d b r front
 
--- the reply, and every place of the lent lists: later places keep what they held
-pub record Leaves (Answers : OutLists → Reply → OutLists → Type 0) (old new : OutLists) (r : Reply) : Type 0 where
-  pub front : OutLists
-  pub answers : Answers old r front
-  pub writes_centres : new.centres ≡ over front.centres old.centres
-  pub writes_margins : new.margins ≡ over front.margins old.margins
-  pub writes_text : new.text ≡ over front.text old.text
-
-abbrev pub PrintsBall : ℕ → ℕ → Ball → OutLists → OutLists → Reply → Type 0
-PrintsBall F d b = Leaves (λ lent. Prints lent F d b)
-
 abbrev pub ToDecimal : ℤ → ℤ → Ball → OutLists → OutLists → Reply → Type 0
-ToDecimal F d b = Leaves (λ lent. Shows lent F d b)
+ToDecimal F d b = Leaves put_out (λ lent. Shows lent F d b)

@@ -1,2 +1,3 @@
 -- The laws of printed counts.
+pub mod Last
 pub mod Printing

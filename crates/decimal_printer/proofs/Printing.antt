@@ -1,8 +1,8 @@
 -- The parts of a count's text, written one behind the other, and the room for each. Assumes nothing.
 use mathlib.Core.Path.{◌≡◌, refl, sym, ◌∙◌, ap}
 use mathlib.Core.Bool.{true, false}
-use mathlib.Core.List.{List, [], ◌∷◌, ◌++◌}
-use Prim.Native.Nat.{ℕ, suc, ◌+◌, ◌-◌, ◌/◌, ◌%◌, ◌^◌, ◌≤◌, ◌<◌}
+use mathlib.Core.List.{List, [], ◌∷◌}
+use Prim.Native.Nat.{ℕ, suc, ◌+◌, ◌-◌, ◌/◌, ◌^◌, ◌≤◌, ◌<◌}
 use native.Mathlib.Nat.{one-le-pow, zero-lt-suc}
 use native.Mathlib.Omega.{arith}
 use borrow.Author.Tests.{ltb-true}
@@ -20,32 +20,8 @@ use Rattle.numerals.specs.Digits.{point}
 use Rattle.printing.specs.Decimal as whole
 use Rattle.printing.proofs.Digits.{decimal_short}
 use Rattle.decimal_texts.specs.Texts.{minus, last_digits, behind, unsigned_text, text, give_or_take, ball_text}
-use Rattle.decimal_texts.proofs.Digits.{last_long}
 use Rattle.decimal_texts.proofs.Lengths.{text_short}
 use Rattle.decimal_printer.specs.Room.{Room}
-
--- ---- the last digits
-
-last_none : {d : ℕ} (n : ℕ) → d ≡ 0 → [] ≡ last_digits d n
-unfolding last_digits
-last_none n e = rw e
-
-last_more : {d : ℕ} (n : ℕ) → (d ≡ 0 → ⊥) → last_digits (d - 1) (n / 10) ++ (48 + n % 10) ∷ [] ≡ last_digits d n
-unfolding last_digits
-last_more {d} n e =
-    let one : d ≡ suc (d - 1) = omega arith in
-    sym (ap (λ k. last_digits k n) one)
-
-pub wrote_no_last : {old : List ℕ} {at d : ℕ} (n : ℕ) → d ≡ 0 → at + d ≤ length old → Wrote (last_digits d n) at old old at
-wrote_no_last n e r = wrote_same (last_none n e) (wrote_nothing (omega arith))
-
-module _ {old now : List ℕ} {at q d : ℕ} (n : ℕ) (e : d ≡ 0 → ⊥) where
-  pub wrote_last : {mid : List ℕ} {p : ℕ} → Wrote (last_digits (d - 1) (n / 10)) at old mid p
-      → Wrote ((48 + n % 10) ∷ []) p mid now q → Wrote (last_digits d n) at old now q
-  wrote_last w v = wrote_same (last_more n e) (wrote_then w v)
-
-  pub last_room : at + d ≤ length old → Wrote (last_digits (d - 1) (n / 10)) at old now q → q < length now
-  last_room r w = omega (arith, wrote_long w, w.after, last_long (d - 1) (n / 10))
 
 -- ---- the point and what stands behind it
 
@@ -91,18 +67,18 @@ unfolding text
 text_above d (pos n) t = refl
 text_above d (negsuc n) t = never t
 
--- as the machine holds it, by the test of its sign, and its size m
-module _ {old now : List ℕ} {at q m : ℕ} (d : ℕ) (z : ℤ) (f : SFits w64 z) (size : m ≡ nat_abs (back z)) where
-  pub wrote_minus : {mid : List ℕ} {p : ℕ} → lt_z (back z) (pos 0) ≡ true → Wrote (minus ∷ []) at old mid p
-      → Wrote (unsigned_text d m) p mid now q → Wrote (text d z) at old now q
-  wrote_minus t w v =
+-- as the machine holds it, its size being m: behind a minus or not, as the test of its sign has it
+module _ {old mid now : List ℕ} {at p q m : ℕ} (d : ℕ) (z : ℤ) (f : SFits w64 z) (size : m ≡ nat_abs (back z)) (v : Wrote (unsigned_text d m) p mid now q) where
+  pub wrote_minus : {put : List ℕ} {next : ℕ} → lt_z (back z) (pos 0) ≡ true → Wrote (minus ∷ []) at old put next → mid ≡ put → p ≡ next
+      → Wrote (text d z) at old now q
+  wrote_minus t w k l =
       let e = to_z-of_z w64 z f in
-      wrote_same (ap (λ k. minus ∷ unsigned_text d k) (size ∙ ap nat_abs e) ∙ text_below d z (rw e at t)) (wrote_then w v)
+      wrote_same (ap (λ n. minus ∷ unsigned_text d n) (size ∙ ap nat_abs e) ∙ text_below d z (rw e at t)) (wrote_then w (rw (k, l) at v))
 
-  pub wrote_bare : lt_z (back z) (pos 0) ≡ false → Wrote (unsigned_text d m) at old now q → Wrote (text d z) at old now q
-  wrote_bare t w =
+  pub wrote_bare : lt_z (back z) (pos 0) ≡ false → mid ≡ old → p ≡ at → Wrote (text d z) at old now q
+  wrote_bare t k l =
       let e = to_z-of_z w64 z f in
-      wrote_same (ap (unsigned_text d) (size ∙ ap nat_abs e) ∙ text_above d z (rw e at t)) w
+      wrote_same (ap (unsigned_text d) (size ∙ ap nat_abs e) ∙ text_above d z (rw e at t)) (rw (k, l) at v)
 
 -- ---- a ball
 

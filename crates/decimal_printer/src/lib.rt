@@ -17,11 +17,13 @@ fn put_last(count: u64, digits: u32, out: &mut [u8], at: usize) -> usize
     requires { at + digits ≤ length out.old }
     ensures { Wrote (last_digits digits count) at out.old out.new result }
 {
-    if digits == 0 {
-        return at;
+    let mut left = count;
+    let end = at + digits as usize;
+    for place in (at..end).rev() {
+        out[place] = b'0' + (left % 10) as u8;
+        left /= 10;
     }
-    let next = put_last(count / 10, digits - 1, out, at);
-    put(b'0' + (count % 10) as u8, out, next)
+    end
 }
 
 // The point and what stands behind it, where there are decimals.
@@ -48,11 +50,8 @@ pub fn put_signed(count: i64, decimals: u32, out: &mut [u8], at: usize) -> usize
     requires { Room 31 decimals at out.old }
     ensures { Wrote (text decimals count) at out.old out.new result }
 {
-    if count < 0 {
-        let next = put(b'-', out, at);
-        return put_unsigned(magnitude(count), decimals, out, next);
-    }
-    put_unsigned(magnitude(count), decimals, out, at)
+    let next = if count < 0 { put(b'-', out, at) } else { at };
+    put_unsigned(magnitude(count), decimals, out, next)
 }
 
 // The centre, give or take the margin.

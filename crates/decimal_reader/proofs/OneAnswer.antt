@@ -1,35 +1,29 @@
 -- One answer is right of each text. Assumes nothing.
-use mathlib.Core.Path.{◌≡◌, ap, ap₂}
+use mathlib.Core.Path.{◌≡◌, ap}
 use mathlib.Core.List.{List}
+use mathlib.Core.Option.{Option}
 use Prim.Native.Nat.{ℕ}
 use lib.IntN.{ℤ}
-use Rattle.numerals.specs.Decimals.{Decimal, decimal}
+use Rattle.std.specs.declared.result.Result.{Result}
+use Rattle.std.specs.declared.result.Result.TheVariants.{Ok, Err}
+use Rattle.numerals.specs.declared.Decimal.{Decimal}
+use Rattle.numerals.specs.declared.Wrong.{Wrong}
 use Rattle.decimal_texts.proofs.Places.{one_misplaced, never_both}
-use Rattle.decimal_reader.specs.declared.Unsigned.{Unsigned}
-use Rattle.decimal_reader.specs.declared.Unsigned.TheVariants as unsigned
-use Rattle.decimal_reader.specs.declared.Signed.{Signed}
-use Rattle.decimal_reader.specs.declared.Signed.TheVariants as signed
-use Rattle.decimal_reader.specs.Answers.{MarginIs, NumberIs, TellsMargin, TellsNumber}
+use Rattle.decimal_reader.specs.Answers.{Is, Tells, TellsMargin, TellsNumber}
+
+one_outcome : {A : Type 0} {f : List ℕ → Option (Decimal A)} {size : A → ℕ} {s : List ℕ} (r t : Result (Decimal A) Wrong) → Tells f size s r
+    → Tells f size s t → r ≡ t
+one_outcome {A} {f} {size} {s} r t k l = by_case r t k.is l.is
+  where
+    by_case : (r t : Result (Decimal A) Wrong) → Is f s r → Is f s t → r ≡ t
+    by_case (Ok x) (Ok y) k l = let same : x ≡ y = cc in ap Ok same
+    by_case (Ok x) (Err w) k l = absurd (never_both l (record { worth = x; is = k }))
+    by_case (Err w) (Ok y) k l = absurd (never_both k (record { worth = y; is = l }))
+    by_case (Err v) (Err w) k l = ap (λ p. Err (record { place = p })) (one_misplaced k l)
 
 module _ {s : List ℕ} where
-  pub margin_one_outcome : (r t : Unsigned) → TellsMargin s r → TellsMargin s t → r ≡ t
-  margin_one_outcome r t k l = by_case r t k.is l.is
-    where
-      by_case : (r t : Unsigned) → MarginIs s r → MarginIs s t → r ≡ t
-      by_case (unsigned.Is m d) (unsigned.Is n e) k l =
-          let same : decimal m d ≡ decimal n e = cc in
-          ap₂ unsigned.Is (ap (λ (y : Decimal ℕ). y.count) same) (ap (λ (y : Decimal ℕ). y.places) same)
-      by_case (unsigned.Is m d) (unsigned.Wrong p) k l = absurd (never_both l (record { worth = decimal m d; is = k }))
-      by_case (unsigned.Wrong p) (unsigned.Is n e) k l = absurd (never_both k (record { worth = decimal n e; is = l }))
-      by_case (unsigned.Wrong p) (unsigned.Wrong q) k l = ap unsigned.Wrong (one_misplaced k l)
+  pub margin_one_outcome : (r t : Result (Decimal ℕ) Wrong) → TellsMargin s r → TellsMargin s t → r ≡ t
+  margin_one_outcome = one_outcome
 
-  pub number_one_outcome : (r t : Signed) → TellsNumber s r → TellsNumber s t → r ≡ t
-  number_one_outcome r t k l = by_case r t k.is l.is
-    where
-      by_case : (r t : Signed) → NumberIs s r → NumberIs s t → r ≡ t
-      by_case (signed.Is y d) (signed.Is z e) k l =
-          let same : decimal y d ≡ decimal z e = cc in
-          ap₂ signed.Is (ap (λ (y : Decimal ℤ). y.count) same) (ap (λ (y : Decimal ℤ). y.places) same)
-      by_case (signed.Is y d) (signed.Wrong p) k l = absurd (never_both l (record { worth = decimal y d; is = k }))
-      by_case (signed.Wrong p) (signed.Is z e) k l = absurd (never_both k (record { worth = decimal z e; is = l }))
-      by_case (signed.Wrong p) (signed.Wrong q) k l = ap signed.Wrong (one_misplaced k l)
+  pub number_one_outcome : (r t : Result (Decimal ℤ) Wrong) → TellsNumber s r → TellsNumber s t → r ≡ t
+  number_one_outcome = one_outcome

@@ -12,7 +12,8 @@ use Rattle.lists.specs.All.{All}
 use Rattle.lists.proofs.Each.{all_both}
 use Rattle.printing.proofs.OneNumber.{Above, above_less, decimal_above}
 use Rattle.numerals.specs.Digits.{point}
-use Rattle.numerals.specs.Decimals.{Decimal, decimal}
+use Rattle.numerals.specs.declared.Decimal.{Decimal}
+use Rattle.numerals.specs.Decimals.{decimal}
 use Rattle.decimal_texts.specs.Texts.{minus, space, unsigned_means, means, figures, most_digits, read_unsigned, read, last_digits, behind, unsigned_text, text}
 use Rattle.decimal_texts.specs.Texts.{give_or_take, ball_text, decimal_ball, before_space, from_space, behind_word, ball_by, ball_means, read_ball}
 use Rattle.decimal_texts.proofs.Texts.{unsigned_text_means, text_means, read_unsigned_back, read_back}

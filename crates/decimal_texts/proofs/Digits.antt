@@ -6,12 +6,11 @@ use mathlib.Core.Option.{none, some, bind}
 use Prim.Native.Nat.{ℕ, zero, suc, ◌+◌, ◌-◌, ◌*◌, ◌/◌, ◌%◌, ◌^◌, ◌≤◌, ◌<◌}
 use native.Mathlib.Nat.{mod-lt, mod-eq_of_lt, div-add-mod', div-one, div-le_self, div-div-eq-div-mul, pow-succ'}
 use native.Mathlib.Omega.{arith}
-use borrow.Author.Tests.{ltb-true, ltb-false, leb-true, ne_eqb}
+use borrow.Author.Tests.{ltb-true, ltb-false, leb-true, le-leb, lt-ltb, ne_eqb}
 use lib.Dec.{leb, ltb, eqb}
 use lib.ListN.{length, length-append}
 use Rattle.whole.proofs.Cases.{both}
 use Rattle.numerals.specs.Digits.{is_digit}
-use Rattle.numerals.proofs.Reading.{among_digits}
 use Rattle.printing.specs.Decimal.{digits_of}
 use Rattle.printing.specs.Decimal as whole
 use Rattle.printing.proofs.Digits.{tenth}
@@ -37,7 +36,7 @@ digits_append n (b ∷ s) t = by_test (is_digit b) (digits_append (10 * n + (b -
 one_digit : (m k : ℕ) → k < 10 → digits_on m ((48 + k) ∷ []) ≡ some (10 * m + k)
 one_digit m k l =
     let same : 48 + k - 48 ≡ k = omega arith in
-    rw (among_digits {b = 48 + k} (omega arith) (omega arith), same)
+    rw (le-leb 48 (48 + k) (omega arith), lt-ltb (48 + k) 58 (omega arith), same)
 
 -- the digits of a tenth and the last one
 last_one : (m n : ℕ) (s : List ℕ) → digits_on m s ≡ some (n / 10) → digits_on m (s ++ (48 + n % 10) ∷ []) ≡ some n

@@ -12,7 +12,8 @@ use lib.ListN.{length}
 use borrow.Author.Tests.{eqb-true}
 use Rattle.whole.proofs.Cases.{never}
 use Rattle.numerals.specs.Digits.{is_digit, point, Reading, number, no_digit, fraction_on, point_on, whole_on, reading}
-use Rattle.numerals.specs.Decimals.{Decimal, decimal}
+use Rattle.numerals.specs.declared.Decimal.{Decimal}
+use Rattle.numerals.specs.Decimals.{decimal}
 use Rattle.decimal_texts.specs.Texts.{digits_on, Parts, bare, pointed, longer, parted, worth, unsigned_means, figures, read_unsigned}
 use Rattle.decimal_texts.proofs.Digits.{never_some}
 

@@ -10,7 +10,8 @@ use lib.Dec.{eqb}
 use lib.IntN.{pos}
 use lib.ListN.{take, drop}
 use Rattle.whole.proofs.Cases.{never}
-use Rattle.numerals.specs.Decimals.{Decimal, decimal}
+use Rattle.numerals.specs.declared.Decimal.{Decimal}
+use Rattle.numerals.specs.Decimals.{decimal}
 use Rattle.decimal_texts.specs.Texts.{minus, unsigned_means, below, above, minus_first, read_unsigned, read}
 use Rattle.decimal_texts.specs.Places.{Legal, Begins, Misplaced, wrong_byte, wrong_end}
 use Rattle.decimal_texts.proofs.Digits.{never_some}

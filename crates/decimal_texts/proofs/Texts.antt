@@ -12,7 +12,8 @@ use lib.ListN.{length}
 use lib.Pow.{pow-add}
 use Rattle.numerals.specs.Digits.{point}
 use Rattle.printing.specs.Decimal as whole
-use Rattle.numerals.specs.Decimals.{Decimal, decimal}
+use Rattle.numerals.specs.declared.Decimal.{Decimal}
+use Rattle.numerals.specs.Decimals.{decimal}
 use Rattle.decimal_texts.specs.Texts.{minus, digits_on, bare, pointed, longer, parted, worth, unsigned_means, below, above, signed, means}
 use Rattle.decimal_texts.specs.Texts.{figures, most_digits, read_unsigned, read, last_digits, behind, unsigned_text, text}
 use Rattle.decimal_texts.proofs.Digits.{decimal_read, last_read, all_read, decimal_some, decimal_few, last_long, digit_first, no_sign, figures_append, figures_all}

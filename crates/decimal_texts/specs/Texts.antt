@@ -3,7 +3,8 @@ use Rattle.std.specs.Prelude.{Bool, false, ◌&&◌, cond, List, [], ◌∷◌, 
 use Rattle.std.proofs.Math.Option.{Option, none, some, map, bind}
 use Rattle.numerals.specs.Digits.{is_digit, point}
 use Rattle.printing.specs.Decimal as whole
-use Rattle.numerals.specs.Decimals.{Decimal, decimal}
+use Rattle.numerals.specs.declared.Decimal.{Decimal}
+use Rattle.numerals.specs.Decimals.{decimal}
 
 abbrev pub minus : ℕ
 minus = 45

@@ -1,10 +1,10 @@
 -- The worked figures hold. Assumes nothing.
 use mathlib.Core.Path.{◌≡◌, refl}
 use mathlib.Core.List.{map}
-use Rattle.rules.specs.declared.Ball.{Ball}
 use Rattle.rules.specs.Numbers.{h, Round, Up}
 use Rattle.decimals.specs.Out.{out}
-use Rattle.decimals.specs.In.{nearest, unless_divides, into}
+use Rattle.reciprocals.specs.Nearest.{nearest, unless_divides}
+use Rattle.decimals.specs.In.{into}
 use Rattle.decimals.specs.Figures.{Counted, Made, out_figures, in_figures}
 
 pub out_hold : map (λ (f : Counted). out f.scale f.decimals f.units) out_figures ≡ map (λ (f : Counted). f.must) out_figures

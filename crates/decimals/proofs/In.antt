@@ -15,9 +15,10 @@ use Rattle.rules.proofs.Rounding.{ceiling_covers}
 use Rattle.whole.proofs.Floor.{rest, rest_lt, floor_split, floor_unique}
 use Rattle.whole.proofs.Ring.{ring, neg, lit, ◌⊕◌, ◌⊖◌, ◌⊗◌, x₀, x₁, x₂, x₃}
 use Rattle.whole.proofs.Size.{size_by, size_mul, size_gap}
-use Rattle.numerals.specs.Decimals.{Decimal}
+use Rattle.numerals.specs.declared.Decimal.{Decimal}
 use Rattle.decimals.specs.Units.{tens, Within}
-use Rattle.decimals.specs.In.{nearest, unless_divides, in_centre, in_margin, into}
+use Rattle.reciprocals.specs.Nearest.{nearest, unless_divides}
+use Rattle.decimals.specs.In.{in_centre, in_margin, into}
 use Rattle.decimals.proofs.Units.{tens_pos, moved, around_contains, within_around}
 
 -- the nearest whole number is at most a half away: 2·|z − nearest·t| is at most t

@@ -6,6 +6,5 @@ pub mod Small
 pub mod Through
 pub mod OneRule
 pub mod Scaled
-pub mod Nearest
 pub mod Made
 pub mod Figures

@@ -15,7 +15,8 @@ use Rattle.numerals.specs.Units.{units, is_exact}
 use Rattle.numerals.proofs.Rounding.{units_exact}
 use Rattle.numerals.specs.Decimals.{decimal}
 use Rattle.decimals.specs.Units.{tens}
-use Rattle.decimals.specs.In.{nearest, unless_divides, in_centre, in_more, into}
+use Rattle.reciprocals.specs.Nearest.{nearest, unless_divides}
+use Rattle.decimals.specs.In.{in_centre, in_more, into}
 use Rattle.decimals.proofs.Units.{tens_pos}
 
 module _ (F v e : ℕ) where

@@ -7,9 +7,10 @@ use Rattle.rules.specs.Numbers.{Q}
 use Rattle.rules.proofs.Quotients.{ceiling_small}
 use Rattle.rounding.proofs.Units.{unit_bound}
 use Rattle.whole.proofs.Size.{size_add, size_mul, size_near, size_sub_comm}
-use Rattle.numerals.specs.Decimals.{Decimal}
+use Rattle.numerals.specs.declared.Decimal.{Decimal}
 use Rattle.decimals.specs.Units.{tens}
-use Rattle.decimals.specs.In.{Readable, nearest, in_centre, in_margin}
+use Rattle.reciprocals.specs.Nearest.{nearest}
+use Rattle.decimals.specs.In.{Readable, in_centre, in_margin}
 use Rattle.decimals.proofs.Units.{tens_pos, tens_small}
 use Rattle.decimals.proofs.In.{nearest_loss, unless_most}
 

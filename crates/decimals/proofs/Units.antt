@@ -2,7 +2,7 @@
 use mathlib.Core.Path.{refl}
 use mathlib.Core.List.{[], ◌∷◌}
 use Prim.Native.Nat.{ℕ, ◌+◌, ◌*◌, ◌^◌, ◌≤◌, ◌<◌}
-use native.Mathlib.Nat.{mul-le-mul_right, le_of_mul-le-mul_right, mul-pos, one-le-pow, zero-lt-suc, pow-le-pow_right}
+use native.Mathlib.Nat.{mul-le-mul_right, le_of_mul-le-mul_right, mul-pos}
 use native.Mathlib.Omega.{arith}
 use lib.IntN.{ℤ, pos, nat_abs, ◌-ℤ◌, ◌*ℤ◌}
 use lib.Pow.{pow_pos}
@@ -11,14 +11,15 @@ use Rattle.rules.specs.Numbers.{Q}
 use Rattle.rules.specs.Values.{Fraction, Contains}
 use Rattle.whole.proofs.Ring.{ring, ◌⊕◌, ◌⊖◌, ◌⊗◌, x₀, x₁, x₂, x₃, x₄, x₅}
 use Rattle.whole.proofs.Size.{size_by, size_add, size_mul}
-use Rattle.numerals.specs.Decimals.{Decimal}
+use Rattle.numerals.proofs.Rounding.{ten_pos, ten_most}
+use Rattle.numerals.specs.declared.Decimal.{Decimal}
 use Rattle.decimals.specs.Units.{tens, top_places, Within}
 
 pub tens_pos : (d : ℕ) → 0 < tens d
-tens_pos d = one-le-pow d 10 (zero-lt-suc 9)
+tens_pos = ten_pos
 
 pub tens_small : {d : ℕ} → d ≤ top_places → tens d ≤ 10 ^ 9
-tens_small l = pow-le-pow_right (zero-lt-suc 9) l
+tens_small = ten_most
 
 -- n/e lies within r/w of c/u
 pub record Around (u w : ℕ) (c : ℤ) (r : ℕ) (x : Fraction) : Type 0 where

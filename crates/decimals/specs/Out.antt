@@ -5,7 +5,8 @@ use Rattle.rules.specs.declared.Ball.{Ball}
 use Rattle.rules.specs.Numbers.{Q, top_scale, Round, Up}
 use Rattle.rules.specs.Values.{IsBall}
 use Rattle.rules.specs.Balls.{ball}
-use Rattle.numerals.specs.Decimals.{Decimal, decimal}
+use Rattle.numerals.specs.declared.Decimal.{Decimal}
+use Rattle.numerals.specs.Decimals.{decimal}
 use Rattle.decimals.specs.Units.{tens, top_places}
 
 -- what may be asked for

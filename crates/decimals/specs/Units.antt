@@ -1,7 +1,7 @@
 -- Decimal numbers with a decimal margin, and which fractions lie within one.
 use Rattle.std.specs.Prelude.{ℕ, ◌*◌, ◌^◌, ◌≤◌, ℤ, pos, nat_abs, ◌-ℤ◌, ◌*ℤ◌}
 use Rattle.rules.specs.Values.{Fraction}
-use Rattle.numerals.specs.Decimals.{Decimal}
+use Rattle.numerals.specs.declared.Decimal.{Decimal}
 
 -- "a number of decimals d from 0 to 9"
 abbrev pub top_places : ℕ

@@ -6,9 +6,9 @@ use Prim.Native.Nat.{ℕ}
 use borrow.Author.Tests.{leb-true}
 use lib.Dec.{leb}
 use lib.ListN.{length, get_or, length-map}
+use Rattle.std.specs.declared.result.Result.TheVariants.{Ok}
 use Rattle.whole.proofs.Cases.{both}
-use Rattle.refusals.specs.declared.Reply.TheVariants.{Done}
-use Rattle.refusals.specs.declared.Reply.{Reply}
+use Rattle.refusals.specs.Said.{Reply}
 use Rattle.refusals.specs.Answer.{value}
 use Rattle.refusals.specs.Said.{answered}
 use Rattle.refusals.proofs.OneReply.{never_both, one_reply}
@@ -16,7 +16,7 @@ use Rattle.formulas.specs.Formula.{Formula, WellFormed, places}
 use Rattle.formulas.specs.Run.{finished}
 use Rattle.formulas.specs.Kinds.{Kind, tested}
 use Rattle.formulas.specs.Job.{Started, roomy, Result, refused_first, stopped_at, done, started_run, work_of, outputs_of, said, Lent, lent_job, Kept}
-use Rattle.formulas.proofs.Lawful.{Lawful}
+use Rattle.formulas.specs.Lawful.{Lawful}
 use Rattle.formulas.proofs.Jobs.{Starts, starts_done, made_many, does}
 use Rattle.packed.specs.Meaning.{formula}
 use Rattle.packed.proofs.WellFormed.{accepted_well_formed}
@@ -38,7 +38,7 @@ pub record Answers (K : Kind) (s : List ℕ) (given : K.Readings) (old new : Len
 same_count : {m n : ℕ} → answered m ≡ answered n → m ≡ n
 same_count e = cc
 
-pub answers : {K : Kind} {s : List ℕ} {given : K.Readings} {old new : Lent K} {n : ℕ} → Kept K (formula s) given old new (Done n) → Answers K s given old new n
+pub answers : {K : Kind} {s : List ℕ} {given : K.Readings} {old new : Lent K} {n : ℕ} → Kept K (formula s) given old new (Ok n) → Answers K s given old new n
 answers {K} {s} {given} {old} {new} {n} k = by_job (lent_job K (formula s) given old) refl k.says k.works k.gives
   where
     by_job : (j : Result K.Value) → lent_job K (formula s) given old ≡ j → answered n ≡ said j → K.Holds (work_of j) old.work new.work
@@ -74,7 +74,7 @@ module _ {K : Kind} (law : Lawful K) {s : List ℕ} {given : K.Readings} {old ne
 
 -- a job whose tests pass and whose run finishes answers, and its lists hold all values and the outputs
 pub record AnswersWith (K : Kind) (f : Formula) (made : List K.Value) (old new : Lent K) (r : Reply) (n : ℕ) : Type 0 where
-  pub is : r ≡ Done n
+  pub is : r ≡ Ok n
   pub many : length (picked K.nothing made f.results) ≡ n
   pub work_holds : K.Holds made old.work new.work
   pub output_holds : K.Holds (picked K.nothing made f.results) old.output new.output
@@ -96,7 +96,7 @@ answers_with K s {given} {old} {new} {f} {vs} {made} {n} r e t u x l k =
     starts_done K (formula s) given (K.room old.work) (K.room old.output) p x in
     let many = length-map f.results (λ o. get_or made o K.nothing) ∙ sym l in
     record {
-      is = one_reply r (Done n) (k.says ∙ ap said does ∙ ap answered many);
+      is = one_reply r (Ok n) (k.says ∙ ap said does ∙ ap answered many);
       many = many;
       work_holds = subst (λ (j : Result K.Value). K.Holds (work_of j) old.work new.work) does k.works;
       output_holds = subst (λ (j : Result K.Value). K.Holds (outputs_of j) old.output new.output) does k.gives;

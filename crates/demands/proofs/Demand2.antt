@@ -8,7 +8,7 @@ use lib.ListN.{length}
 use Rattle.lists.specs.Each.{Each}
 use Rattle.lists.specs.Joined.{Rel}
 use Rattle.lists.proofs.Joined.{rel_picked}
-use Rattle.refusals.specs.declared.Reply.TheVariants.{Done}
+use Rattle.std.specs.declared.result.Result.TheVariants.{Ok}
 use Rattle.refusals.specs.Answer.{value}
 use Rattle.refusals.proofs.Answers.{same_value}
 use Rattle.rules.specs.declared.Ball.{Ball}
@@ -61,13 +61,13 @@ module _ {s : List ℕ} {given : BallReadings} {old new : Lent ball_kind} {n : �
   encloses c x = run_encloses a.on.formula.header.scale no_ball a.on.formula.program (inside c) as_named a.finishes x
 
 -- a ball run that answered: exact arithmetic comes through for all choices inside its readings
-pub exact_in_ball_run : (s : List ℕ) {given : BallReadings} {old new : Lent ball_kind} {n : ℕ} → Kept ball_kind (formula s) given old new (Done n)
+pub exact_in_ball_run : (s : List ℕ) {given : BallReadings} {old new : Lent ball_kind} {n : ℕ} → Kept ball_kind (formula s) given old new (Ok n)
     → {f : Formula} → formula s ≡ value f → HasExact f given
 exact_in_ball_run s {given} k e =
     let a = answers k in
     subst (λ (f : Formula). HasExact f given) (same_value (sym a.started.means ∙ e)) (comes_through a)
 
-pub demand_2 : {s : List ℕ} {given : BallReadings} {old new : Lent ball_kind} {n : ℕ} → Kept ball_kind (formula s) given old new (Done n) → Honest s given new n
+pub demand_2 : {s : List ℕ} {given : BallReadings} {old new : Lent ball_kind} {n : ℕ} → Kept ball_kind (formula s) given old new (Ok n) → Honest s given new n
 demand_2 {s} {given} {old} {new} {n} k =
     let a = answers k in
     let F = a.on.formula.header.scale in

@@ -10,8 +10,8 @@ use Rattle.lists.specs.Each.{Each}
 use Rattle.lists.specs.Over.{over}
 use Rattle.lists.specs.Joined.{Rel}
 use Rattle.lists.proofs.Joined.{rel_length, rel_picked}
-use Rattle.refusals.specs.declared.Reply.{Reply}
-use Rattle.refusals.specs.declared.Reply.TheVariants.{Done}
+use Rattle.std.specs.declared.result.Result.TheVariants.{Ok}
+use Rattle.refusals.specs.Said.{Reply}
 use Rattle.refusals.specs.Answer.{value}
 use Rattle.refusals.proofs.Answers.{same_value}
 use Rattle.rules.specs.declared.Ball.{Ball}
@@ -167,13 +167,13 @@ module _ {s : List ℕ} {d : Domain} {old new : Lent matryoshka_kind} {n : ℕ} 
       (length-map os (λ o. get_or a.made o no_matryoshka) ∙ sym a.as_many) a.output_holds.margins_hold
 
 -- an admitted domain: exact arithmetic comes through for all choices inside readings within it
-pub exact_in_domain : (s : List ℕ) {d : Domain} {old new : Lent matryoshka_kind} {n : ℕ} → Kept matryoshka_kind (formula s) d old new (Done n)
+pub exact_in_domain : (s : List ℕ) {d : Domain} {old new : Lent matryoshka_kind} {n : ℕ} → Kept matryoshka_kind (formula s) d old new (Ok n)
     → {f : Formula} → formula s ≡ value f → {g : BallReadings} → InDomain d g → HasExact f g
 exact_in_domain s k e {g} w =
     let a = answers k in
     subst (λ (f : Formula). HasExact f g) (same_value (sym a.started.means ∙ e)) (comes_through a w)
 
-pub demand_3 : {s : List ℕ} {d : Domain} {old new : Lent matryoshka_kind} {n : ℕ} → Kept matryoshka_kind (formula s) d old new (Done n) → Admitted s d new n
+pub demand_3 : {s : List ℕ} {d : Domain} {old new : Lent matryoshka_kind} {n : ℕ} → Kept matryoshka_kind (formula s) d old new (Ok n) → Admitted s d new n
 demand_3 {s} {n = n} k =
     let a = answers k in
     let F = a.on.formula.header.scale in

@@ -3,8 +3,8 @@
 use Rattle.std.specs.Prelude.{◌≡◌, true, List, [], ◌∷◌, ◌++◌, map, ℕ, ◌+◌, ◌≤◌, ℤ, ◌-ℤ◌, nat_abs, get_or, take}
 use Rattle.std.specs.Int.Signed.{non_neg}
 use Rattle.lists.specs.Joined.{Rel}
-use Rattle.refusals.specs.declared.Reply.{Reply}
-use Rattle.refusals.specs.declared.Reply.TheVariants.{Done}
+use Rattle.std.specs.declared.result.Result.TheVariants.{Ok}
+use Rattle.refusals.specs.Said.{Reply}
 use Rattle.refusals.specs.Answer.{value}
 use Rattle.rules.specs.declared.Ball.{Ball}
 use Rattle.rules.specs.declared.Matryoshka.{Matryoshka}
@@ -76,9 +76,9 @@ pub record Admitted (s : List ℕ) (d : Domain) (left : Lent matryoshka_kind) (n
   pub meant : Formula
   pub means : formula s ≡ value meant
   pub plain_runs : {g : BallReadings} → InDomain d g → (old : Lent plain_kind) {new : Lent plain_kind} (r : Reply)
-      → LongEnough plain_kind meant.header old → Kept plain_kind (formula s) g.centres old new r → r ≡ Done n
+      → LongEnough plain_kind meant.header old → Kept plain_kind (formula s) g.centres old new r → r ≡ Ok n
   pub ball_runs : {g : BallReadings} → InDomain d g → (old : Lent ball_kind) {new : Lent ball_kind} (r : Reply)
-      → LongEnough ball_kind meant.header old → Kept ball_kind (formula s) g old new r → r ≡ Done n
+      → LongEnough ball_kind meant.header old → Kept ball_kind (formula s) g old new r → r ≡ Ok n
   pub centres_agree : {g : BallReadings} → InDomain d g → (old : Lent plain_kind) {new : Lent plain_kind} (r : Reply)
       → LongEnough plain_kind meant.header old → Kept plain_kind (formula s) g.centres old new r
       → (before : Lent ball_kind) {after : Lent ball_kind} (t : Reply)

@@ -1,5 +1,8 @@
 -- What C sees of request i: the answer as a struct of numbers.
 use Rattle.std.specs.Prelude.{◌≡◌, List, ℕ, ◌<◌}
+use Rattle.std.specs.declared.result.Result.{Result}
+use Rattle.std.specs.declared.result.Result.TheVariants.{Ok, Err}
+use Rattle.refusals.specs.declared.Refused.{Refused}
 use Rattle.refusals.specs.Answer.{value, refused}
 use Rattle.refusals.specs.Places.{Placed}
 use Rattle.formulas.specs.Readings.{Domain}
@@ -20,11 +23,11 @@ margins_explanation (value (never_admitted w)) =
     record { refusal = 0; answer = 3; parts = 0; met = w.number; place = w.place }
 
 -- a part is one of 0 to 255
-abbrev pub PartFits : Explained → Type 0
-PartFits (explained.AdmittedTo t q k) = t < all_parts
-PartFits (explained.Refused q k) = Unit {0}
-PartFits explained.Nothing = Unit {0}
-PartFits (explained.NeverAdmitted q k) = Unit {0}
+abbrev pub PartFits : Result Explained Refused → Type 0
+PartFits (Ok (explained.AdmittedTo t e)) = t < all_parts
+PartFits (Ok explained.Nothing) = Unit {0}
+PartFits (Ok (explained.NeverAdmitted e)) = Unit {0}
+PartFits (Err e) = Unit {0}
 
 pub record ExplainDoor (s : List ℕ) (g : Domain) (r : MarginsExplanation) : Type 0 where
   pub tells : r ≡ margins_explanation (explanation (formula s) g)

@@ -7,7 +7,7 @@ ghost use Rattle.explaining.specs.Explaining.{explained_says};
 ghost use Rattle.explain_door.specs.ExplainDoors.{margins_explanation, PartFits, ExplainDoor};
 
 use explaining::{Explained, explain};
-use refusals::number_of;
+use refusals::{Refused, number_of};
 
 // The number of the refusal, or 0 and the answer: 1 nothing to explain, 2 admitted to `parts` of 256, 3 never admitted; what was met one
 // part further, or at 0; and its instruction, or the refused reading.
@@ -21,38 +21,37 @@ pub struct MarginsExplanation {
     pub place: u64,
 }
 
-fn told(r: Explained) -> MarginsExplanation
+fn told(r: Result<Explained, Refused>) -> MarginsExplanation
     requires { PartFits r }
     ensures { result ≡ margins_explanation (explained_says r) }
 {
+    let nothing = MarginsExplanation {
+        refusal: 0,
+        answer: 1,
+        parts: 0,
+        met: 0,
+        place: 0,
+    };
     match r {
-        Explained::Refused(q, k) => MarginsExplanation {
-            refusal: number_of(q),
+        Err(e) => MarginsExplanation {
+            refusal: number_of(e.why),
             answer: 0,
-            parts: 0,
-            met: 0,
-            place: k as u64,
+            place: e.place as u64,
+            ..nothing
         },
-        Explained::Nothing => MarginsExplanation {
-            refusal: 0,
-            answer: 1,
-            parts: 0,
-            met: 0,
-            place: 0,
-        },
-        Explained::AdmittedTo(t, q, k) => MarginsExplanation {
-            refusal: 0,
+        Ok(Explained::Nothing) => nothing,
+        Ok(Explained::AdmittedTo(t, e)) => MarginsExplanation {
             answer: 2,
             parts: t as u8,
-            met: number_of(q) as u16,
-            place: k as u64,
+            met: number_of(e.why) as u16,
+            place: e.place as u64,
+            ..nothing
         },
-        Explained::NeverAdmitted(q, k) => MarginsExplanation {
-            refusal: 0,
+        Ok(Explained::NeverAdmitted(e)) => MarginsExplanation {
             answer: 3,
-            parts: 0,
-            met: number_of(q) as u16,
-            place: k as u64,
+            met: number_of(e.why) as u16,
+            place: e.place as u64,
+            ..nothing
         },
     }
 }

@@ -5,12 +5,15 @@ use Prim.Native.Nat.{ℕ, zero, suc, ◌+◌, ◌≤◌}
 use native.Mathlib.Omega.{arith}
 use lib.IntN.{ℤ}
 use lib.ListN.{length}
+use Rattle.std.specs.declared.option.Option.{Option}
+use Rattle.std.specs.declared.result.Result.TheVariants.{Ok, Err}
+use Rattle.refusals.specs.Places.{because}
+use Rattle.refusals.specs.declared.Refused.{Refused}
 use Rattle.whole.proofs.Cases.{by_case}
 use Rattle.lists.specs.Over.{least}
 use Rattle.lists.proofs.Over.{both_least}
 use Rattle.refusals.specs.declared.Refusal.{Refusal}
-use Rattle.refusals.specs.declared.Verdict.{Verdict}
-use Rattle.refusals.specs.declared.Verdict.TheVariants as verdict
+use Rattle.refusals.specs.Places.{Verdict}
 use Rattle.refusals.specs.Answer.{value, then}
 use Rattle.refusals.specs.Places.{Placed, elsewhere, verdict_says}
 use Rattle.refusals.proofs.Answers.{then_value, then_refused}
@@ -24,8 +27,7 @@ use Rattle.formulas.proofs.Fitting.{let_in, domain_fit, domain_many}
 use Rattle.packed.specs.Meaning.{formula, meant, checked}
 use Rattle.packed.proofs.Accepted.{refused_unread}
 use Rattle.packed.proofs.Formed.{Formed, formed, limits_of}
-use Rattle.checking.specs.declared.Checked.{Checked}
-use Rattle.checking.specs.declared.Checked.TheVariants as checked
+use Rattle.checking.specs.CheckAnswers.{Checked}
 use Rattle.checking.specs.CheckAnswers.{check_answer}
 use Rattle.readings.specs.Judges.{JudgesAll}
 use Rattle.shrinking.specs.Explained.{admissions, explained, explanation}
@@ -33,11 +35,10 @@ use Rattle.shrinking.proofs.Falls.{Falls, found, found_none, found_all}
 use Rattle.shrinking.proofs.Parts.{falls}
 use Rattle.explaining.specs.declared.Edge.{Edge}
 use Rattle.explaining.specs.declared.Explained.{Explained}
-use Rattle.explaining.specs.declared.Explained.TheVariants as told
-use Rattle.explaining.specs.Explaining.{Searchable, Lookable, tries, Refuses, none_refused, refused_there, Searches, edge_says, Tells, ExplainsDomain}
+use Rattle.explaining.specs.Explaining.{Searchable, Lookable, tries, Refuses, none_refused, refused_there, Searches, edge_says, Tells, Looks, ExplainsDomain}
 
 -- the edge is the explanation
-edge_explained : {admitted : ℕ → Placed (Unit {0})} → Falls admitted → {first : ℕ} {met : Verdict} → Refuses admitted first met
+edge_explained : {admitted : ℕ → Placed (Unit {0})} → Falls admitted → {first : ℕ} {met : Option Refused} → Refuses admitted first met
     → ((t : ℕ) → first ≡ suc t → admitted t ≡ value tt) → explained admitted ≡ edge_says first met
 edge_explained {admitted} f none_refused before = found_all admitted (before 256 refl)
 edge_explained {admitted} f (refused_there {t = zero} l e) before = found_none f e
@@ -72,19 +73,19 @@ module _ {s : List ℕ} {h : Header} {g : Domain} (p : Lookable s h g) where
       ∙ then_value (λ (ms : List Matryoshka). value (explained (admissions (meant s) ms)))
       (subst (λ (a : Header). tested matryoshka_kind a.inputs g ≡ value (matryoshka_kind.values g)) (sym there.is_header) p.fits)
 
-  pub looks : {e : Edge} {r : Explained} → Searches s g e → Tells e r → ExplainsDomain s g r
+  pub looks : {e : Edge} {r : Explained} → Searches s g e → Tells e r → Looks s g r
   looks w t =
       let f = falls there.well (matryoshka_kind.values g) (many ∙ ap (λ (a : Header). a.inputs) (sym there.is_header)) in
-      record { says = t.says ∙ ap value (sym (edge_explained f w.refuses w.admitted_before)) ∙ sym reads }
+      record { says = ap value (t.says ∙ sym (edge_explained f w.refuses w.admitted_before)) ∙ sym reads }
 
 -- what comes before the search
 module _ {s : List ℕ} {g : Domain} {c : Checked} (checks : check_answer c ≡ checked s) where
-  pub unread : {q : Refusal} → c ≡ checked.Refused q → ExplainsDomain s g (told.Refused q 0)
+  pub unread : {q : Refusal} → c ≡ Err q → ExplainsDomain s g (Err (because q 0))
   unfolding explanation
   unread t = record { says = sym (then_refused _ (ap elsewhere (refused_unread s (by_case check_answer checks t)))) }
 
-  module _ {h : Header} {v : Verdict} (t : c ≡ checked.Formula h) (j : JudgesAll h.inputs (domain_brought g) v) where
-    pub misread : {q : Refusal} {k : ℕ} → v ≡ verdict.Refused q k → ExplainsDomain s g (told.Refused q k)
+  module _ {h : Header} {v : Verdict} (t : c ≡ Ok h) (j : JudgesAll h.inputs (domain_brought g) v) where
+    pub misread : {e : Refused} → v ≡ Err e → ExplainsDomain s g (Err e)
     unfolding explanation
     misread u =
         let read = formed s (by_case check_answer checks t) in
@@ -95,6 +96,5 @@ module _ {s : List ℕ} {g : Domain} {c : Checked} (checks : check_answer c ≡ 
               ∙ then_refused _ (then_refused _ tests));
         }
 
-    pub lookable : v ≡ verdict.Passed → Lookable s h g
-    lookable u =
-        record { is_formula = by_case check_answer checks t; fits = then_value (λ x. value (matryoshka_kind.values g)) (sym j.says ∙ ap verdict_says u) }
+pub looked : {s : List ℕ} {g : Domain} {r : Explained} → Looks s g r → ExplainsDomain s g (Ok r)
+looked l = record { says = l.says }

@@ -5,7 +5,10 @@ use Prim.Native.Nat.{ℕ, ◌<◌}
 use native.Mathlib.Nat.{le_refl}
 use Rattle.refusals.specs.declared.Refusal.{Refusal}
 use Rattle.refusals.specs.Answer.{Answer, value, refused}
-use Rattle.refusals.specs.Places.{Placed}
+use Rattle.std.specs.declared.result.Result.{Result}
+use Rattle.std.specs.declared.result.Result.TheVariants.{Ok, Err}
+use Rattle.refusals.specs.declared.Refused.{Refused}
+use Rattle.refusals.specs.Places.{Where, Placed}
 use Rattle.refusals.proofs.OneReply.{refusal_of, number_back}
 use Rattle.formulas.specs.Formula.{Formula}
 use Rattle.formulas.specs.Readings.{Domain}
@@ -17,9 +20,9 @@ use Rattle.shrinking.specs.GivenInExplaining.{LongEnough, Explains, barred, admi
 use Rattle.shrinking.proofs.Explained.{explanation_explains, explains_explanation}
 use Rattle.explaining.specs.declared.Explained.{Explained}
 use Rattle.explaining.specs.declared.Explained.TheVariants as explained
-use Rattle.explaining.specs.Explaining.{explained_says, ExplainsDomain}
+use Rattle.explaining.specs.Explaining.{where_met, explained_says, ExplainsDomain}
 
-module _ {s : List ℕ} {g : Domain} {r : Explained} {work output : ℕ} (long : LongEnough work output) where
+module _ {s : List ℕ} {g : Domain} {r : Result Explained Refused} {work output : ℕ} (long : LongEnough work output) where
   -- each answer "given exactly when", about the admit job in lists that are long enough
   pub explain_exactly : ExplainsDomain s g r → Explains (formula s) g work output (explained_says r)
   explain_exactly x =
@@ -41,23 +44,29 @@ part_below (admitted_itself a) = tt
 part_below (largest l a r m) = l
 part_below (none r m) = tt
 
-pub part_told : {s : List ℕ} {g : Domain} {t k : ℕ} {q : Refusal} → ExplainsDomain s g (explained.AdmittedTo t q k) → t < all_parts
-part_told {t = t} {k = k} {q = q} x =
-    part_below (explain_exactly {r = explained.AdmittedTo t q k} (record { for_values = le_refl 528; for_outputs = le_refl 16 }) x)
+pub part_told : {s : List ℕ} {g : Domain} {t : ℕ} {e : Refused} → ExplainsDomain s g (Ok (explained.AdmittedTo t e)) → t < all_parts
+part_told {t = t} {e = e} x =
+    part_below (explain_exactly {r = Ok (explained.AdmittedTo t e)} (record { for_values = le_refl 528; for_outputs = le_refl 16 }) x)
 
 -- what is said stands for one answer
-abbrev answer_of : Placed Explanation → Explained
-answer_of (refused w) = explained.Refused (refusal_of w.number) w.place
-answer_of (value nothing_to_explain) = explained.Nothing
-answer_of (value (admitted_to t w)) = explained.AdmittedTo t (refusal_of w.number) w.place
-answer_of (value (never_admitted w)) = explained.NeverAdmitted (refusal_of w.number) w.place
+abbrev met_at : Where → Refused
+met_at w = record { why = refusal_of w.number; place = w.place }
 
-answer_back : (r : Explained) → answer_of (explained_says r) ≡ r
-answer_back (explained.Refused q k) = ap (λ (p : Refusal). explained.Refused p k) (number_back q)
-answer_back explained.Nothing = refl
-answer_back (explained.AdmittedTo t q k) = ap (λ (p : Refusal). explained.AdmittedTo t p k) (number_back q)
-answer_back (explained.NeverAdmitted q k) = ap (λ (p : Refusal). explained.NeverAdmitted p k) (number_back q)
+abbrev answer_of : Placed Explanation → Result Explained Refused
+answer_of (refused w) = Err (met_at w)
+answer_of (value nothing_to_explain) = Ok explained.Nothing
+answer_of (value (admitted_to t w)) = Ok (explained.AdmittedTo t (met_at w))
+answer_of (value (never_admitted w)) = Ok (explained.NeverAdmitted (met_at w))
+
+met_back : (e : Refused) → met_at (where_met e) ≡ e
+met_back e = ap (λ (q : Refusal). record { why = q; place = e.place }) (number_back e.why)
+
+answer_back : (r : Result Explained Refused) → answer_of (explained_says r) ≡ r
+answer_back (Err e) = ap Err (met_back e)
+answer_back (Ok explained.Nothing) = refl
+answer_back (Ok (explained.AdmittedTo t e)) = ap (λ (m : Refused). Ok (explained.AdmittedTo t m)) (met_back e)
+answer_back (Ok (explained.NeverAdmitted e)) = ap (λ (m : Refused). Ok (explained.NeverAdmitted m)) (met_back e)
 
 -- two answers that the contract allows are equal
-pub explain_one_outcome : {s : List ℕ} {g : Domain} (r t : Explained) → ExplainsDomain s g r → ExplainsDomain s g t → r ≡ t
+pub explain_one_outcome : {s : List ℕ} {g : Domain} (r t : Result Explained Refused) → ExplainsDomain s g r → ExplainsDomain s g t → r ≡ t
 explain_one_outcome r t a b = sym (answer_back r) ∙ ap answer_of (a.says ∙ sym b.says) ∙ answer_back t

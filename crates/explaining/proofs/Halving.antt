@@ -3,12 +3,12 @@ use mathlib.Core.Path.{◌≡◌, refl, sym, ◌∙◌, ap, subst}
 use Prim.Native.Nat.{ℕ, zero, suc, ◌+◌, ◌-◌, ◌*◌, ◌^◌, ◌≤◌, ◌<◌}
 use native.Mathlib.Nat.{pow-suc}
 use native.Mathlib.Omega.{arith}
-use Rattle.refusals.specs.declared.Refusal.{Refusal}
-use Rattle.refusals.specs.declared.Verdict.{Verdict}
-use Rattle.refusals.specs.declared.Verdict.TheVariants.{Passed, Refused}
-use Rattle.refusals.specs.Answer.{value}
-use Rattle.refusals.specs.Places.{Placed, verdict_says}
-use Rattle.explaining.specs.Explaining.{HalfWay, Refuses, none_refused, refused_there}
+use Rattle.std.specs.declared.option.Option.{Option}
+use Rattle.std.specs.declared.option.Option.TheVariants.{None, Some}
+use Rattle.refusals.specs.declared.Refused.{Refused}
+use Rattle.refusals.specs.Answer.{value, refused}
+use Rattle.refusals.specs.Places.{Placed}
+use Rattle.explaining.specs.Explaining.{where_met, HalfWay, Refuses, none_refused, refused_there}
 
 -- the next part that is tried, with few parts left on either side of it
 pub record Next (low high t admissions : ℕ) : Type 0 where
@@ -19,7 +19,7 @@ pub record Next (low high t admissions : ℕ) : Type 0 where
   pub few_over : high - suc t < 2 ^ (8 - admissions)
 
 -- each part below `low` is admitted, `high` is refused or past them all
-pub record Halving (admitted : ℕ → Placed (Unit {0})) (low high t : ℕ) (met : Verdict) (admissions : ℕ) : Type 0 where
+pub record Halving (admitted : ℕ → Placed (Unit {0})) (low high t : ℕ) (met : Option Refused) (admissions : ℕ) : Type 0 where
   pub refuses : Refuses admitted high met
   pub before : (k : ℕ) → low ≡ suc k → admitted k ≡ value tt
   pub ordered : low ≤ high
@@ -49,7 +49,7 @@ halved {low} {high} {t} a l few more way =
     width = ap (λ (n : ℕ). 2 ^ n) (omega (arith, seven)) ∙ pow-suc 2 (8 - (a + 1))
 
 module _ {admitted : ℕ → Placed (Unit {0})} where
-  pub halving_start : Halving admitted 0 257 255 Passed 0
+  pub halving_start : Halving admitted 0 257 255 None 0
   halving_start =
       record {
         refuses = none_refused;
@@ -60,7 +60,7 @@ module _ {admitted : ℕ → Placed (Unit {0})} where
         next = λ l. record { from = omega arith; below = omega arith; left = omega arith; few_under = omega arith; few_over = omega arith };
       }
 
-  module _ {low high t a : ℕ} {met : Verdict} (h : Halving admitted low high t met a) (more : low < high) where
+  module _ {low high t a : ℕ} {met : Option Refused} (h : Halving admitted low high t met a) (more : low < high) where
     pub halving_passed : {u : ℕ} → value tt ≡ admitted t → HalfWay (t + 1) high u → Halving admitted (t + 1) high u met (a + 1)
     halving_passed p e =
         let n = h.next more in
@@ -73,15 +73,15 @@ module _ {admitted : ℕ → Placed (Unit {0})} where
           next = λ l. halved a n.left (omega (arith, n.few_over)) l e;
         }
 
-    pub halving_refused : {u : ℕ} {q : Refusal} {k : ℕ} → verdict_says (Refused q k) ≡ admitted t → HalfWay low t u
-        → Halving admitted low t u (Refused q k) (a + 1)
-    halving_refused r e =
+    pub halving_refused : {u : ℕ} {e : Refused} → refused (where_met e) ≡ admitted t → HalfWay low t u
+        → Halving admitted low t u (Some e) (a + 1)
+    halving_refused {e = e} r way =
         let n = h.next more in
         record {
-          refuses = refused_there {t = t} (omega (arith, n.below, h.most)) (sym r);
+          refuses = refused_there {t = t} {e = e} (omega (arith, n.below, h.most)) (sym r);
           before = h.before;
           ordered = n.from;
           most = omega (arith, n.below, h.most);
           few = omega (arith, n.left);
-          next = λ l. halved a n.left n.few_under l e;
+          next = λ l. halved a n.left n.few_under l way;
         }

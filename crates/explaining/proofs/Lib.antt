@@ -1,5 +1,4 @@
 -- The search by halves in the code's shape.
-pub mod Telling
 pub mod Trying
 pub mod Halving
 pub mod Search

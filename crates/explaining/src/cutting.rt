@@ -1,17 +1,18 @@
-// A part of a domain's strays or margins.
-ghost use Rattle.explaining.specs.Explaining.{Cuttable, Cuts};
+// A part of an input's domain.
+ghost use Rattle.std.specs.Prelude.{◌≡◌};
+ghost use Rattle.shrinking.specs.Parts.{narrowed};
+ghost use Rattle.explaining.specs.Explaining.{Cuttable};
 
-use whole::magnitude;
+use rules::Matryoshka;
 
-// t/256 of each of `from`, rounded down, to the front of `to`.
-pub(crate) fn cut(from: &[i64], t: u64, to: &mut [u64])
-    requires { Cuttable from.now t to.old }
-    ensures { Cuts from.now t to.old to.new }
+// t/256 of the stray and of the margin, rounded down.
+pub(crate) fn narrowed(t: u64, m: Matryoshka) -> Matryoshka
+    requires { Cuttable t m }
+    ensures { result ≡ narrowed t m }
 {
-    let mut i = 0;
-    while i < from.len() {
-        let v = from[i];
-        to[i] = magnitude(v) * t / 256;
-        i = i + 1;
+    Matryoshka {
+        middle: m.middle,
+        stray: m.stray * t / 256,
+        margin: m.margin * t / 256,
     }
 }

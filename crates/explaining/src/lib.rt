@@ -2,13 +2,14 @@
 #![tactic(auto)]
 
 ghost use Rattle.formulas.specs.Readings.{domain};
-ghost use Rattle.explaining.specs.Explaining.{Tells, Lookable, ExplainsDomain};
+ghost use Rattle.explaining.specs.Explaining.{Tells, Lookable, Looks, ExplainsDomain};
 
-use checking::Checked;
 use checking::checking::check;
-use domain_readings::admit_readings;
+use domain_readings::GivenDomain;
 use formulas::Header;
-use refusals::{Refusal, Verdict};
+use matryoshka_walk::DomainJob;
+use readings::test;
+use refusals::Refused;
 use searching::search;
 
 pub mod cutting;
@@ -18,69 +19,67 @@ pub mod searching;
 #[derive(Clone, Copy)]
 pub struct Edge {
     pub first: u64,
-    pub met: Verdict,
+    pub met: Option<Refused>,
     pub admissions: u64,
 }
 
-// What a domain's refusal comes from, or why that could not be looked at.
+// What a domain's refusal comes from: the largest part that is admitted, if any is, and what is met one part further.
 #[derive(Clone, Copy)]
 pub enum Explained {
-    Refused(Refusal, usize),
     Nothing,
-    AdmittedTo(u64, Refusal, usize),
-    NeverAdmitted(Refusal, usize),
+    AdmittedTo(u64, Refused),
+    NeverAdmitted(Refused),
 }
 
 // The first part that is refused is told by the one before it.
 fn told(e: Edge) -> Explained
     ensures { Tells e result }
 {
-    let first = e.first;
-    let met = e.met;
-    match met {
-        Verdict::Passed => Explained::Nothing,
-        Verdict::Refused(q, k) => {
-            if first == 0 {
-                Explained::NeverAdmitted(q, k)
-            } else {
-                Explained::AdmittedTo(first - 1, q, k)
-            }
-        }
+    match e.met {
+        None => Explained::Nothing,
+        Some(met) if e.first == 0 => Explained::NeverAdmitted(met),
+        Some(met) => Explained::AdmittedTo(e.first - 1, met),
     }
 }
 
 // A domain that fits, in lists that are long enough for every formula.
-fn look(s: &[u8], h: Header, middles: &[i64], strays: &[i64], margins: &[i64]) -> Explained
-    requires { Lookable s.now h (domain middles.now strays.now margins.now) }
-    ensures { ExplainsDomain s.now
-        (domain middles.now strays.now margins.now) result }
+fn look(s: &[u8], h: Header, given: GivenDomain) -> Explained
+    requires { Lookable s.now h (domain given.middles.now given.strays.now given.margins.now) }
+    ensures { Looks s.now (domain given.entry.middles.now given.entry.strays.now given.entry.margins.now) result }
 {
-    let mut work_middles: [i64; 528] = [0; 528];
-    let mut work_strays: [u64; 528] = [0; 528];
-    let mut work_margins: [u64; 528] = [0; 528];
-    let e = search(
-        s,
-        h,
-        middles,
-        strays,
-        margins,
-        &mut work_middles,
-        &mut work_strays,
-        &mut work_margins,
-    );
-    told(e)
+    let mut work_middles = [0i64; 528];
+    let mut work_strays = [0u64; 528];
+    let mut work_margins = [0u64; 528];
+    let mut job = DomainJob {
+        middles: given.middles,
+        strays: given.strays,
+        margins: given.margins,
+        work_middles: &mut work_middles,
+        work_strays: &mut work_strays,
+        work_margins: &mut work_margins,
+        output_middles: &mut [],
+        output_strays: &mut [],
+        output_margins: &mut [],
+    };
+    told(search(s, h, &mut job))
 }
 
 // How far this domain must shrink to be admitted, and what it meets one part further; or the refusal.
-pub fn explain(s: &[u8], middles: &[i64], strays: &[i64], margins: &[i64]) -> Explained
+pub fn explain(
+    s: &[u8],
+    middles: &[i64],
+    strays: &[i64],
+    margins: &[i64],
+) -> Result<Explained, Refused>
     ensures { ExplainsDomain s.now
         (domain middles.now strays.now margins.now) result }
 {
-    match check(s) {
-        Checked::Refused(r) => Explained::Refused(r, 0),
-        Checked::Formula(h) => match admit_readings(middles, strays, margins, h.inputs) {
-            Verdict::Refused(q, k) => Explained::Refused(q, k),
-            Verdict::Passed => look(s, h, middles, strays, margins),
-        },
-    }
+    let h = check(s)?;
+    let given = GivenDomain {
+        middles,
+        strays,
+        margins,
+    };
+    test(&given, h.inputs)?;
+    Ok(look(s, h, given))
 }

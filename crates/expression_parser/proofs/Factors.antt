@@ -1,57 +1,26 @@
 -- A factor of each form, in the code's shape. Assumes nothing.
 use mathlib.Core.Path.{◌≡◌, refl, sym, ◌∙◌, ap, subst}
-use mathlib.Core.Bool.{Bool, true, false, cond}
-use mathlib.Core.List.{List, [], ◌∷◌, ◌++◌, map, append-nil, append_assoc}
-use Prim.Native.Nat.{ℕ, zero, suc, ◌+◌, ◌-◌, ◌*◌, ◌^◌, ◌≤◌, ◌<◌}
+use mathlib.Core.List.{List, [], ◌∷◌, append-nil, append_assoc}
+use Prim.Native.Nat.{ℕ, suc, ◌+◌, ◌-◌, ◌<◌}
 use native.Mathlib.Omega.{arith}
-use borrow.Author.Tests.{eqb-true, eqb-false}
-use lib.Dec.{eqb, lit<}
-use lib.IntN.{pos}
+use lib.Dec.{lit<}
 use lib.ListN.{length, get_or, length-append}
-use Rattle.refusals.specs.declared.Refusal.{Refusal}
-use Rattle.refusals.specs.declared.Refusal.TheVariants.{Misplaced, TooDeep}
-use Rattle.refusals.specs.Refusals.{refusal_number}
-use Rattle.formulas.specs.declared.Instruction.{Instruction}
+use Rattle.std.specs.declared.result.Result.{Result}
+use Rattle.std.specs.declared.result.Result.TheVariants.{Ok, Err}
+use Rattle.refusals.specs.declared.Refused.{Refused}
 use Rattle.formulas.specs.declared.Instruction.TheVariants.{Negate}
-use Rattle.expressions.specs.Tree.{Tree, input, written, negated}
+use Rattle.expressions.specs.Tree.{Tree, input, negated}
 use Rattle.expressions.specs.Kind.{Kind, opens, closes, star, plus, minus, point, digit, letter, other, kind}
 use Rattle.expressions.specs.Grammar.{Level, a_sum, a_factor}
-use Rattle.expressions.specs.Parser.{Place, inside, begins, starts, negating, want, have, after, misplaced, stopped, run, factor_at, ended}
+use Rattle.expressions.specs.Parser.{Place, inside, begins, starts, negating, want, have, after, misplaced, stopped, run, ended}
 use Rattle.expressions.specs.Compiled.{Compiled, compiled}
-use Rattle.expression_parser.specs.declared.Begin.{Begin}
 use Rattle.expression_parser.specs.declared.Begin.TheVariants as begin
-use Rattle.expression_parser.specs.declared.Made.{Made}
-use Rattle.expression_parser.specs.declared.Part.{Part}
-use Rattle.expression_parser.specs.declared.Part.TheVariants as part
-use Rattle.expression_parser.specs.Words.{operands_word, Keeps, Puts, Operable, next_made}
-use Rattle.expression_parser.specs.Parts.{rest, byte, Readable, ReadableSign, NoOther, Begins, with_parenthesis, with_minus, with_letter, with_number, MadeSo, RefusedSo, Ends, ReadSo, PartIs, PartSo, closed_at, closed_part}
-use Rattle.expression_parser.proofs.Putting.{keeps_more}
+use Rattle.expression_parser.specs.declared.Source.{Source}
+use Rattle.expression_parser.specs.declared.Reached.{Reached}
+use Rattle.expression_parser.specs.Words.{word_of, Keeps, Puts, one_more}
+use Rattle.expression_parser.specs.Parts.{rest, byte, Begins, Readable, MadeSo, Ends, ReadSo, made_at, Part, Opens, Closes}
+use Rattle.expression_parser.proofs.Keeping.{keeps_more}
 use Rattle.expression_parser.proofs.Seen.{rank, byte_kind, kind_byte, letter_kind, rest_byte, rest_cases, there_byte}
-
--- what a part's answer says, once its case is known
-pub so_made : {l : Level} {F m n : ℕ} {s : List ℕ} {at count : ℕ} {old new : List ℕ} {r : Part} {a : Made}
-    → PartSo l F m n s at count old new r → r ≡ part.Made a → ReadSo l F m n s at count old new a
-so_made {l} {F} {m} {n} {s} {at} {count} {old} {new} p e = subst (PartIs l F m n s at count old new) e p.is
-
-pub so_refused : {l : Level} {F m n : ℕ} {s : List ℕ} {at count : ℕ} {old new : List ℕ} {r : Part} {c : Refusal} {p : ℕ}
-    → PartSo l F m n s at count old new r → r ≡ part.Refused c p → RefusedSo l m n s at old new c p
-so_refused {l} {F} {m} {n} {s} {at} {count} {old} {new} x e = subst (PartIs l F m n s at count old new) e x.is
-
-pub refused_on : {l l' : Level} {F m n n' : ℕ} {s : List ℕ} {at at' count count' : ℕ} {old old' new : List ℕ} {r : Part} {c : Refusal} {p : ℕ}
-    → PartSo l F m n s at count old new r → r ≡ part.Refused c p → length old ≡ length old'
-    → ((k : Place l') → (j : Place l) × (run (want n' (factor_at k)) (rest m s at') ≡ run (want n (factor_at j)) (rest m s at)))
-    → PartSo l' F m n' s at' count' old' new r
-refused_on {l} {l'} {F} {m} {n} {n'} {s} {at} {at'} {count} {count'} {old} {old'} {new} {r} {c} {p} x e long way =
-    let so = so_refused x e in
-    record {
-      is =
-          subst (PartIs l' F m n' s at' count' old' new) (sym e)
-          (record { goes = λ k. let w = way k in w.1 ∙ so.goes w.0; long = so.long ∙ long; within = so.within });
-    }
-
--- one more that is open leaves one fewer
-one_fewer : {n : ℕ} → (n ≡ 0 → ⊥) → n ≡ suc (n - 1)
-one_fewer d = omega arith
 
 -- the byte at a place, as the parser sees it
 pub rest_sign : (m : ℕ) (s : List ℕ) (at : ℕ) (c : Kind) → rank c < 6 → at < length s → get_or s at 0 ≡ byte c
@@ -79,228 +48,194 @@ misplaced_behind n t k (other ∷ cs) e d = refl
 not_closing : (m : ℕ) (s : List ℕ) (at : ℕ) → (get_or s at 0 ≡ 41 → ⊥) → NotClosing (rest m s at)
 not_closing m s at d = rest_cases m s at NotClosing tt (λ l q. d (kind_byte m (get_or s at 0) closes (lit< tt) q))
 
-module _ {F m : ℕ} {s : List ℕ} {at count words : ℕ} (r : Readable F m s at count words) (l : at < length s) where
-  -- a letter
-  letter_made : {n : ℕ} {old : List ℕ} → 97 ≤ get_or s at 0 → get_or s at 0 - 97 < m
-      → PartSo a_factor F m n s at count old old (part.Made (record { value = get_or s at 0 - 97; at = at + 1; count = count }))
-  letter_made {n} {old} low below =
-      record {
+-- ---- a letter
+
+pub letter_made : {s : Source} {from : Reached} {words i : ℕ} {old : List ℕ} → Readable s from words → Begins s.inputs (get_or s.text.now from.at 0) (begin.Letter i)
+    → Part a_factor s from old old (record from { at = from.at + 1 }) (Ok i)
+letter_made {s} {from} {i = i} {old} r b =
+    record {
+      is =
+          record {
+            made =
+                record {
+                  tree = input i;
+                  goes = λ k. ap (run (want s.room k)) (rest_byte s.inputs s.text.now from.at there ∙ ap (λ c. c ∷ rest s.inputs s.text.now (from.at + 1)) seen);
+                  value_is = refl;
+                  count_is = omega arith;
+                  keeps = λ p e h. subst (λ is. Keeps is old) (sym (append-nil p)) h;
+                  long = refl;
+                  named = omega (arith, b.is.2);
+                  onward = omega arith;
+                  within = omega (arith, there);
+                  few = omega arith;
+                };
+            ends = tt;
+          };
+    }
+  where
+    there : from.at < length s.text.now
+    there = there_byte s.text.now from.at (get_or s.text.now from.at 0 - 1) (omega (arith, b.is.0))
+
+    seen : kind s.inputs (get_or s.text.now from.at 0) ≡ letter i
+    seen = letter_kind s.inputs b.is.0 (omega (arith, b.is.1, b.is.2)) ∙ ap letter (sym b.is.1)
+
+-- ---- a sign that opens
+
+parenthesis_there : {m : ℕ} (s : List ℕ) (at : ℕ) → Begins m (get_or s at 0) begin.Parenthesis → at < length s
+parenthesis_there s at b = there_byte s at 39 b.is
+
+minus_there : {m : ℕ} (s : List ℕ) (at : ℕ) → Begins m (get_or s at 0) begin.Minus → at < length s
+minus_there s at b = there_byte s at 44 b.is
+
+-- where nothing more may be open
+module _ {s : Source} {from : Reached} {words : ℕ} {old : List ℕ} {to : Reached} {e : Refused} (r : Readable s from words) (o : Opens s from to (Err e)) where
+  too_deep : (c : Kind) → rank c < 6 → get_or s.text.now from.at 0 ≡ byte c → from.at < length s.text.now
+      → ((k : Place a_factor) (cs : List Kind) → run (want 0 k) (c ∷ cs) ≡ stopped 19 (c ∷ cs)) → Part a_factor s from old old to (Err e)
+  too_deep c small q there stops =
+      rw o.is.1
+      (record {
         is =
             record {
-              made =
-                  record {
-                    tree = input (get_or s at 0 - 97);
-                    goes = λ k. ap (run (want n k)) (rest_byte m s at l ∙ ap (λ c. c ∷ rest m s (at + 1)) (letter_kind m low below));
-                    value_is = refl;
-                    count_is = omega arith;
-                    keeps = λ p e h. subst (λ is. Keeps is old) (sym (append-nil p)) h;
-                    long = refl;
-                    named = omega arith;
-                    onward = omega arith;
-                    within = omega arith;
-                    few = omega arith;
-                  };
-              ends = tt;
+              goes = λ k.
+                  ap (λ n. run (want n k) (rest s.inputs s.text.now from.at)) o.is.0
+                  ∙ ap (run (want 0 k)) is
+                  ∙ stops k (rest s.inputs s.text.now (from.at + 1))
+                  ∙ ap (stopped 19) (sym is);
+              long = refl;
+              within = r.there;
             };
-      }
+      })
+    where
+      is : rest s.inputs s.text.now from.at ≡ c ∷ rest s.inputs s.text.now (from.at + 1)
+      is = rest_sign s.inputs s.text.now from.at c small there q
 
-  -- a sign where nothing more may be open
-  deep : {n : ℕ} {old : List ℕ} (c : Kind) → rest m s at ≡ c ∷ rest m s (at + 1)
-      → ((k : Place a_factor) → run (want 0 k) (c ∷ rest m s (at + 1)) ≡ stopped 19 (c ∷ rest m s (at + 1))) → n ≡ 0
-      → PartSo a_factor F m n s at count old old (part.Refused TooDeep at)
-  deep {n} {old} c is stops e =
-      record {
-        is =
-            subst (λ j. RefusedSo a_factor m j s at old old TooDeep at) (sym e)
-            (record { goes = λ k. ap (run (want 0 k)) is ∙ stops k ∙ ap (stopped 19) (sym is); long = refl; within = r.there });
-      }
+  pub parenthesis_too_deep : Begins s.inputs (get_or s.text.now from.at 0) begin.Parenthesis → Part a_factor s from old old to (Err e)
+  parenthesis_too_deep b = too_deep opens (lit< tt) b.is (parenthesis_there s.text.now from.at b) (λ k cs. refl)
 
-  deep_opens : {n : ℕ} {old : List ℕ} → get_or s at 0 ≡ 40 → n ≡ 0 → PartSo a_factor F m n s at count old old (part.Refused TooDeep at)
-  deep_opens q e = deep opens (rest_sign m s at opens (lit< tt) l q) (λ k. refl) e
+  pub minus_too_deep : Begins s.inputs (get_or s.text.now from.at 0) begin.Minus → Part a_factor s from old old to (Err e)
+  minus_too_deep b = too_deep minus (lit< tt) b.is (minus_there s.text.now from.at b) (λ k cs. refl)
 
-  deep_minus : {n : ℕ} {old : List ℕ} → get_or s at 0 ≡ 45 → n ≡ 0 → PartSo a_factor F m n s at count old old (part.Refused TooDeep at)
-  deep_minus q e = deep minus (rest_sign m s at minus (lit< tt) l q) (λ k. refl) e
+-- what was read inside, as it is around
+module _ {s t : Source} {from to : Reached} (o : Opens s from to (Ok t)) where
+  inside_so : {l : Level} {old new : List ℕ} {on : Reached} {r : Result ℕ Refused} → Part l t to old new on r
+      → Part l (record s { room = t.room }) (record from { at = from.at + 1 }) old new on r
+  inside_so {l} {old} {new} {on} {r} x =
+      subst (λ x. Part l (record s { room = t.room }) x old new on r) o.is.2
+      (subst (λ z. Part l z to old new on r) o.is.1 x)
 
   -- a minus and a factor
-  module _ {n : ℕ} (q : get_or s at 0 ≡ 45) (some : n ≡ 0 → ⊥) {old mid : List ℕ} {i : Part}
-      (inner : PartSo a_factor F m (n - 1) s (at + 1) count old mid i) where
-    minus_goes : (k : Place a_factor) → run (want n k) (rest m s at) ≡ run (want (n - 1) (negating k)) (rest m s (at + 1))
+  module _ (b : Begins s.inputs (get_or s.text.now from.at 0) begin.Minus) where
+    minus_goes : (k : Place a_factor) → run (want s.room k) (rest s.inputs s.text.now from.at)
+        ≡ run (want t.room (negating k)) (rest s.inputs s.text.now (from.at + 1))
     minus_goes k =
-        ap (λ j. run (want j k) (rest m s at)) (one_fewer some)
-        ∙ ap (run (want (suc (n - 1)) k)) (rest_sign m s at minus (lit< tt) l q)
+        ap (λ n. run (want n k) (rest s.inputs s.text.now from.at)) o.is.0
+        ∙ ap (run (want (suc t.room) k)) (rest_sign s.inputs s.text.now from.at minus (lit< tt) (minus_there s.text.now from.at b) b.is)
 
-    refused_inside : {c : Refusal} {p : ℕ} → i ≡ part.Refused c p → PartSo a_factor F m n s at count old mid i
-    refused_inside e = refused_on inner e refl (λ k. (negating k, minus_goes k))
+    pub minus_refused : {old mid : List ℕ} {on : Reached} {e : Refused} → Part a_factor t to old mid on (Err e) → Part a_factor s from old mid on (Err e)
+    minus_refused x =
+        let y = (inside_so x).is in
+        record { is = record { goes = λ k. minus_goes k ∙ y.goes (negating k); long = y.long; within = y.within } }
 
-    made_inside : {a : Made} {new : List ℕ} → i ≡ part.Made a → Puts a.count (operands_word 1 a.value 0) mid new
-        → PartSo a_factor F m n s at count old new (part.Made (next_made m a))
-    made_inside {a} {new} e puts = record { is = record { made = made; ends = tt } }
-      where
-        x : MadeSo a_factor F m (n - 1) s (at + 1) count old mid a
-        x = (so_made inner e).made
+    module _ {old mid : List ℕ} {on : Reached} {v : ℕ} (x : Part a_factor t to old mid on (Ok v)) where
+      y : MadeSo a_factor s.scale s.inputs t.room s.text.now (from.at + 1) from.count old mid (made_at v on)
+      y = (inside_so x).is.made
 
-        A : Compiled
-        A = compiled F x.tree (m + count)
+      abbrev A : Compiled
+      A = compiled s.scale y.tree (s.inputs + from.count)
 
-        kept : (p : List Instruction) → length p ≡ count → Keeps p old → Keeps (p ++ ((compiled F x.tree (m + count)).program ++ Negate (compiled F x.tree (m + count)).result ∷ [])) new
-        kept p e h =
-            rw (← append_assoc)
-            (keeps_more (Negate (compiled F x.tree (m + count)).result) {old = mid} (simp length-append (omega (arith, x.count_is))) (x.keeps p e h)
-            (subst (λ v. Puts a.count (operands_word 1 v 0) mid new) x.value_is puts))
-
-        made : MadeSo a_factor F m n s at count old new (next_made m a)
-        made =
-            record {
-              tree = negated x.tree;
-              goes = λ k. minus_goes k ∙ x.goes (negating k) ∙ ap (λ j. run (have (after j (negated x.tree) k)) (rest m s a.at)) (sym (one_fewer some));
-              value_is = omega (arith, x.count_is);
-              count_is = rw length-append (omega (arith, x.count_is));
-              keeps = kept;
-              long = puts.long ∙ x.long;
-              named = omega arith;
-              onward = omega (arith, x.onward);
-              within = x.within;
-              few = omega (arith, x.few);
-            }
+      pub minus_made : {w : ℕ} {last : Reached} {new : List ℕ}
+          → (w ≡ s.inputs + on.count) × (last ≡ one_more on) × Puts on.count (word_of (Negate v)) mid new
+          → Part a_factor s from old new last (Ok w)
+      minus_made {w} {last} {new} kept =
+          rw (kept.0, kept.1)
+          (record {
+            is =
+                record {
+                  made =
+                      record {
+                        tree = negated y.tree;
+                        goes = λ k.
+                            minus_goes k ∙ y.goes (negating k)
+                            ∙ ap (λ n. run (have (after n (negated y.tree) k)) (rest s.inputs s.text.now on.at)) (sym o.is.0);
+                        value_is = omega (arith, y.count_is);
+                        count_is = rw length-append (omega (arith, y.count_is));
+                        keeps = λ p e h.
+                            rw (← append_assoc)
+                            (keeps_more (Negate A.result) {old = mid} (simp length-append (omega (arith, y.count_is))) (y.keeps p e h)
+                            (subst (λ i. Puts on.count (word_of (Negate i)) mid new) y.value_is kept.2));
+                        long = kept.2.long ∙ y.long;
+                        named = omega arith;
+                        onward = omega (arith, y.onward);
+                        within = y.within;
+                        few = omega (arith, y.few);
+                      };
+                  ends = tt;
+                };
+          })
 
   -- a sum in parentheses
-  module _ {n : ℕ} (q : get_or s at 0 ≡ 40) (some : n ≡ 0 → ⊥) {old new : List ℕ} {i : Part}
-      (inner : PartSo a_sum F m (n - 1) s (at + 1) count old new i) where
-    opens_goes : (k : Place a_factor) → run (want n k) (rest m s at) ≡ run (want (n - 1) (begins (starts (inside k)))) (rest m s (at + 1))
+  module _ (b : Begins s.inputs (get_or s.text.now from.at 0) begin.Parenthesis) where
+    opens_goes : (k : Place a_factor) → run (want s.room k) (rest s.inputs s.text.now from.at)
+        ≡ run (want t.room (begins (starts (inside k)))) (rest s.inputs s.text.now (from.at + 1))
     opens_goes k =
-        ap (λ j. run (want j k) (rest m s at)) (one_fewer some)
-        ∙ ap (run (want (suc (n - 1)) k)) (rest_sign m s at opens (lit< tt) l q)
+        ap (λ n. run (want n k) (rest s.inputs s.text.now from.at)) o.is.0
+        ∙ ap (run (want (suc t.room) k)) (rest_sign s.inputs s.text.now from.at opens (lit< tt) (parenthesis_there s.text.now from.at b) b.is)
 
-    -- the sum was read, and it is closed
-    closes_made : {a : Made} → ReadSo a_sum F m (n - 1) s (at + 1) count old new a → get_or s a.at 0 ≡ 41
-        → ReadSo a_factor F m n s at count old new (record { value = a.value; at = a.at + 1; count = a.count })
-    closes_made {a} x e =
-        record {
-          made =
-              record {
-                tree = y.tree;
-                goes = λ k.
-                    opens_goes k ∙ y.goes (inside k)
-                    ∙ ap (run (have (ended (n - 1) y.tree (inside k)))) (rest_sign m s a.at closes (lit< tt) there e)
-                    ∙ ap (λ j. run (have (after j y.tree k)) (rest m s (a.at + 1))) (sym (one_fewer some));
-                value_is = y.value_is;
-                count_is = y.count_is;
-                keeps = y.keeps;
-                long = y.long;
-                named = y.named;
-                onward = omega (arith, y.onward);
-                within = omega (arith, there);
-                few = omega (arith, y.few);
-              };
-          ends = tt;
-        }
-      where
-        y : MadeSo a_sum F m (n - 1) s (at + 1) count old new a
-        y = x.made
+    pub sum_refused : {old new : List ℕ} {on : Reached} {e : Refused} → Part a_sum t to old new on (Err e) → Part a_factor s from old new on (Err e)
+    sum_refused x =
+        let y = (inside_so x).is in
+        record { is = record { goes = λ k. opens_goes k ∙ y.goes (inside k); long = y.long; within = y.within } }
 
-        there : a.at < length s
-        there = there_byte s a.at 40 e
+    module _ {old new : List ℕ} {on : Reached} {v : ℕ} (x : Part a_sum t to old new on (Ok v)) where
+      z : ReadSo a_sum s.scale s.inputs t.room s.text.now (from.at + 1) from.count old new (made_at v on)
+      z = (inside_so x).is
 
-    -- or what stands there is misplaced
-    closes_none : {a : Made} → ReadSo a_sum F m (n - 1) s (at + 1) count old new a → (get_or s a.at 0 ≡ 41 → ⊥)
-        → RefusedSo a_factor m n s at old new Misplaced a.at
-    closes_none {a} x e =
-        record {
-          goes = λ k. opens_goes k ∙ y.goes (inside k) ∙ misplaced_behind (n - 1) y.tree k (rest m s a.at) x.ends (not_closing m s a.at e);
-          long = y.long;
-          within = y.within;
-        }
-      where
-        y : MadeSo a_sum F m (n - 1) s (at + 1) count old new a
-        y = x.made
+      a : MadeSo a_sum s.scale s.inputs t.room s.text.now (from.at + 1) from.count old new (made_at v on)
+      a = z.made
 
-    closed_inside : {r : Part} → r ≡ closed_part s i → PartSo a_factor F m n s at count old new r
-    closed_inside {r} e = subst (PartSo a_factor F m n s at count old new) (sym e) (by_part i inner.is)
-      where
-        by_part : (j : Part) → PartIs a_sum F m (n - 1) s (at + 1) count old new j → PartSo a_factor F m n s at count old new (closed_part s j)
-        by_part (part.Refused c p) x =
-            record {
-              is = record { goes = λ k. opens_goes k ∙ x.goes (inside k); long = x.long; within = x.within };
-            }
-        by_part (part.Made a) x = by_byte (eqb (get_or s a.at 0) 41) refl
-          where
-            by_byte : (t : Bool) → eqb (get_or s a.at 0) 41 ≡ t → PartSo a_factor F m n s at count old new (closed_at t a)
-            by_byte true q = record { is = closes_made x (eqb-true (get_or s a.at 0) 41 q) }
-            by_byte false q = record { is = closes_none x (eqb-false (get_or s a.at 0) 41 q) }
+      -- it is closed
+      pub sum_closed : {last : Reached} {u : Unit {0}} → Closes (get_or s.text.now on.at 0) on last (Ok u)
+          → Part a_factor s from old new last (Ok v)
+      sum_closed c =
+          rw c.is.1
+          (record {
+            is =
+                record {
+                  made =
+                      record {
+                        tree = a.tree;
+                        goes = λ k.
+                            opens_goes k ∙ a.goes (inside k)
+                            ∙ ap (run (have (ended t.room a.tree (inside k)))) (rest_sign s.inputs s.text.now on.at closes (lit< tt) there c.is.0)
+                            ∙ ap (λ n. run (have (after n a.tree k)) (rest s.inputs s.text.now (on.at + 1))) (sym o.is.0);
+                        value_is = a.value_is;
+                        count_is = a.count_is;
+                        keeps = a.keeps;
+                        long = a.long;
+                        named = a.named;
+                        onward = omega (arith, a.onward);
+                        within = omega (arith, there);
+                        few = omega (arith, a.few);
+                      };
+                  ends = tt;
+                };
+          })
+        where
+          there : on.at < length s.text.now
+          there = there_byte s.text.now on.at 40 c.is.0
 
--- ---- as the code has them
-
-module _ {c : Kind} {F m : ℕ} {s : List ℕ} {at count words : ℕ} (r : ReadableSign c F m s at count words) where
-  pub sign_readable : Readable F m s (at + 1) count words
-  sign_readable =
-      record {
-        scale_small = r.readable.scale_small;
-        inputs_few = r.readable.inputs_few;
-        there = omega (arith, r.here);
-        few = omega (arith, r.readable.few);
-        words_few = r.readable.words_few;
-      }
-
-module _ {F m : ℕ} {s : List ℕ} {at count words : ℕ} (r : ReadableSign opens F m s at count words) {n : ℕ} where
-  pub too_deep_opens : {old : List ℕ} → n ≡ 0 → PartSo a_factor F m n s at count old old (part.Refused TooDeep at)
-  too_deep_opens e = deep_opens r.readable r.here r.sign e
-
-  pub opens_closed : (n ≡ 0 → ⊥) → {old new : List ℕ} {i q : Part} → PartSo a_sum F m (n - 1) s (at + 1) count old new i → q ≡ closed_part s i
-      → PartSo a_factor F m n s at count old new q
-  opens_closed some inner e = closed_inside r.readable r.here r.sign some inner e
-
-module _ {F m : ℕ} {s : List ℕ} {at count words : ℕ} (r : ReadableSign minus F m s at count words) {n : ℕ} where
-  pub too_deep_minus : {old : List ℕ} → n ≡ 0 → PartSo a_factor F m n s at count old old (part.Refused TooDeep at)
-  too_deep_minus e = deep_minus r.readable r.here r.sign e
-
-  module _ (some : n ≡ 0 → ⊥) {old mid : List ℕ} {i : Part} (inner : PartSo a_factor F m (n - 1) s (at + 1) count old mid i) where
-    pub minus_refused : {c : Refusal} {p : ℕ} → i ≡ part.Refused c p → PartSo a_factor F m n s at count old mid i
-    minus_refused e = refused_inside r.readable r.here r.sign some inner e
-
-    pub minus_made : {a o : Made} {new : List ℕ} → i ≡ part.Made a → o ≡ next_made m a → Puts a.count (operands_word 1 a.value 0) mid new
-        → PartSo a_factor F m n s at count old new (part.Made o)
-    minus_made {new = new} e f puts =
-        subst (λ o. PartSo a_factor F m n s at count old new (part.Made o)) (sym f)
-        (made_inside r.readable r.here r.sign some inner e puts)
-
-pub minus_operable : {F m n : ℕ} {s : List ℕ} {at count : ℕ} {old mid : List ℕ} {i : Part} {a : Made}
-    → ReadableSign minus F m s at count (length old) → PartSo a_factor F m n s (at + 1) count old mid i → i ≡ part.Made a → length s < 2 ^ 63
-    → Operable (length mid) m 1 a.value 0 a
-minus_operable r inner e near =
-    let x = (so_made inner e).made in
-    record {
-      few = omega (arith, x.long, r.readable.words_few);
-      inputs_few = r.readable.inputs_few;
-      code_small = lit< tt;
-      first_below = x.named;
-      second_below = omega (arith, x.named);
-      counted = omega (arith, x.few, r.readable.few);
-      near = omega (arith, x.within);
-    }
-
--- how a factor begins says which function reads it
-module _ {F m : ℕ} {s : List ℕ} {at count words : ℕ} (r : Readable F m s at count words) {b : Begin} (how : Begins m s at b) where
-  pub begun_parenthesis : b ≡ begin.Parenthesis → ReadableSign opens F m s at count words
-  begun_parenthesis e = by_begin (subst (Begins m s at) e how)
-    where
-      by_begin : Begins m s at begin.Parenthesis → ReadableSign opens F m s at count words
-      by_begin (with_parenthesis l q) = record { readable = r; here = l; sign = q }
-
-  pub begun_minus : b ≡ begin.Minus → ReadableSign minus F m s at count words
-  begun_minus e = by_begin (subst (Begins m s at) e how)
-    where
-      by_begin : Begins m s at begin.Minus → ReadableSign minus F m s at count words
-      by_begin (with_minus l q) = record { readable = r; here = l; sign = q }
-
-  pub begun_number : b ≡ begin.Number → NoOther (rest m s at)
-  begun_number e = by_begin (subst (Begins m s at) e how)
-    where
-      by_begin : Begins m s at begin.Number → NoOther (rest m s at)
-      by_begin (with_number o) = o
-
-  pub begun_letter : {n i : ℕ} {old : List ℕ} → b ≡ begin.Letter i
-      → PartSo a_factor F m n s at count old old (part.Made (record { value = i; at = at + 1; count = count }))
-  begun_letter {n} {i} {old} e = by_begin (subst (Begins m s at) e how)
-    where
-      by_begin : {i : ℕ} → Begins m s at (begin.Letter i) → PartSo a_factor F m n s at count old old (part.Made (record { value = i; at = at + 1; count = count }))
-      by_begin (with_letter l q k) = letter_made r l q k
+      -- or what stands there is misplaced
+      pub sum_not_closed : {last : Reached} {e : Refused} → Closes (get_or s.text.now on.at 0) on last (Err e)
+          → Part a_factor s from old new last (Err e)
+      sum_not_closed c =
+          rw c.is.1
+          (record {
+            is =
+                record {
+                  goes = λ k.
+                      opens_goes k ∙ a.goes (inside k)
+                      ∙ misplaced_behind t.room a.tree k (rest s.inputs s.text.now on.at) z.ends (not_closing s.inputs s.text.now on.at c.is.0);
+                  long = a.long;
+                  within = a.within;
+                };
+          })

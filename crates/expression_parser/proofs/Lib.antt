@@ -1,10 +1,9 @@
 -- The laws of reading a text, one subject a file.
-pub mod Putting
-pub mod Bytes
+pub mod Keeping
 pub mod Seen
 pub mod Numbers
 pub mod Parts
-pub mod Factors
 pub mod Numbered
-pub mod Terms
+pub mod Factors
+pub mod Joined
 pub mod Whole

@@ -1,6 +1,6 @@
 -- The number that stands at a place is the parser's number there: it goes on behind it, or stops where a digit must
 -- stand. Assumes nothing.
-use mathlib.Core.Path.{◌≡◌, refl, sym, ◌∙◌, ap, subst}
+use mathlib.Core.Path.{◌≡◌, refl, sym, ◌∙◌, ap}
 use mathlib.Core.Bool.{Bool, true, false, cond, ◌&&◌}
 use mathlib.Core.List.{List, [], ◌∷◌, map}
 use Prim.Native.Nat.{ℕ, zero, suc, ◌+◌, ◌-◌, ◌*◌, ◌≤◌}
@@ -12,8 +12,20 @@ use Rattle.expressions.specs.Tree.{written}
 use Rattle.expressions.specs.Kind.{Kind, opens, closes, star, plus, minus, point, digit, letter, other, kind}
 use Rattle.expressions.specs.Grammar.{a_factor}
 use Rattle.expressions.specs.Parser.{Place, want, digits, pointed, have, after, misplaced, Outcome, stopped, run}
-use Rattle.expression_parser.specs.Parts.{NoOther}
 use Rattle.expression_parser.proofs.Seen.{Seen, sees_opens, sees_closes, sees_star, sees_plus, sees_minus, sees_point, sees_digit, sees_letter, sees_other, kind_seen}
+
+-- a byte that begins a factor of another form than a number
+abbrev pub NoOtherIn : List Kind → Type 0
+NoOtherIn [] = Unit {0}
+NoOtherIn (opens ∷ cs) = ⊥
+NoOtherIn (closes ∷ cs) = Unit {0}
+NoOtherIn (star ∷ cs) = Unit {0}
+NoOtherIn (plus ∷ cs) = Unit {0}
+NoOtherIn (minus ∷ cs) = ⊥
+NoOtherIn (point ∷ cs) = Unit {0}
+NoOtherIn (digit d ∷ cs) = Unit {0}
+NoOtherIn (letter i ∷ cs) = ⊥
+NoOtherIn (other ∷ cs) = Unit {0}
 
 module _ (m n : ℕ) (k : Place a_factor) where
   -- the parser behind what was read
@@ -121,7 +133,7 @@ module _ (m n : ℕ) (k : Place a_factor) where
 
   -- where a factor must begin and no other form does
   begin_byte : (b : ℕ) (s : List ℕ) (x : Outcome) {c : Kind} → run (digits n k 8 0 (b - 48)) (map (kind m) s) ≡ x → Seen m b c
-      → NoOther (c ∷ map (kind m) s)
+      → NoOtherIn (c ∷ map (kind m) s)
       → run (want n k) (c ∷ map (kind m) s) ≡ cond (is_digit b) x (stopped misplaced (c ∷ map (kind m) s))
   begin_byte b s x g (sees_opens q) o = absurd o
   begin_byte b s x g (sees_closes q) o = unless x _ (ap is_digit q)
@@ -133,7 +145,7 @@ module _ (m n : ℕ) (k : Place a_factor) where
   begin_byte b s x g (sees_letter i j) o = absurd o
   begin_byte b s x g (sees_other i q j) o = unless x _ q
 
-  pub number_runs : (s : List ℕ) → NoOther (map (kind m) s) → run (want n k) (map (kind m) s) ≡ onward_from (reading s)
+  pub number_runs : (s : List ℕ) → NoOtherIn (map (kind m) s) → run (want n k) (map (kind m) s) ≡ onward_from (reading s)
   number_runs [] o = refl
   number_runs (b ∷ s) o =
       let x = whole_on 8 (b - 48) s in

@@ -1,30 +1,32 @@
 -- A part of a text and what is joined to it. Assumes nothing.
-use mathlib.Core.Path.{◌≡◌, refl, sym, ◌∙◌, ap, ap₂, subst}
-use mathlib.Core.Bool.{Bool, true, false, cond}
-use mathlib.Core.List.{List, [], ◌∷◌, ◌++◌, map, append_assoc, append-nil}
-use Prim.Native.Nat.{ℕ, zero, suc, ◌+◌, ◌-◌, ◌*◌, ◌≤◌, ◌<◌}
+use mathlib.Core.Path.{◌≡◌, sym, ◌∙◌, ap, ap₂, subst}
+use mathlib.Core.List.{List, [], ◌∷◌, ◌++◌, append_assoc}
+use Prim.Native.Nat.{ℕ, ◌+◌}
 use native.Mathlib.Omega.{arith}
-use lib.ListN.{length, get_or, drop, length-append}
+use lib.ListN.{length, length-append}
 use Rattle.formulas.specs.declared.Instruction.{Instruction}
 use Rattle.expressions.specs.Tree.{Tree}
-use Rattle.expressions.specs.Grammar.{Level, a_sum, a_product, a_factor}
-use Rattle.expressions.specs.Parser.{Place, want, have, run, factor_at, ended}
+use Rattle.expressions.specs.Grammar.{Level}
+use Rattle.expressions.specs.Parser.{Place, have, run, ended}
 use Rattle.expressions.specs.Compiled.{Compiled, joined, compiled}
 use Rattle.expression_parser.specs.declared.Made.{Made}
-use Rattle.expression_parser.specs.Words.{operands_word, word_of, Keeps, Puts, next_made}
+use Rattle.expression_parser.specs.Words.{word_of, Keeps, Puts}
 use Rattle.expression_parser.specs.Parts.{rest, MadeSo}
-use Rattle.expression_parser.proofs.Putting.{keeps_more}
+use Rattle.expression_parser.proofs.Keeping.{keeps_more}
 
--- an operator, its code and its tree
-pub record Operator (F code : ℕ) (op : ℕ → ℕ → Instruction) (top : Tree → Tree → Tree) : Type 0 where
-  pub word_is : (i j : ℕ) → word_of (op i j) ≡ operands_word code i j
+-- the value that an instruction behind a part makes
+abbrev pub next_made : ℕ → Made → Made
+next_made m r = record { value = m + r.count; at = r.at; count = r.count + 1 }
+
+-- an operator and its tree
+pub record Operator (F : ℕ) (op : ℕ → ℕ → Instruction) (top : Tree → Tree → Tree) : Type 0 where
   pub compiles : (t u : Tree) (n : ℕ)
       → compiled F (top t u) n ≡ joined op n (compiled F t n) (compiled F u (n + length (compiled F t n).program))
 
 module _ {l l' : Level} {F m n : ℕ} {s : List ℕ} {from count : ℕ} {old mid mid' new : List ℕ} {left right : Made}
-    {code : ℕ} {op : ℕ → ℕ → Instruction} {top : Tree → Tree → Tree} (o : Operator F code op top)
+    {op : ℕ → ℕ → Instruction} {top : Tree → Tree → Tree} (o : Operator F op top)
     (a : MadeSo l F m n s from count old mid left) (b : MadeSo l' F m n s (left.at + 1) left.count mid mid' right)
-    (puts : Puts right.count (operands_word code left.value right.value) mid' new) where
+    (puts : Puts right.count (word_of (op left.value right.value)) mid' new) where
   abbrev A : Compiled
   A = compiled F a.tree (m + count)
 
@@ -43,10 +45,8 @@ module _ {l l' : Level} {F m n : ℕ} {s : List ℕ} {from count : ℕ} {old mid
   abbrev instruction : Instruction
   instruction = op A.result B.result
 
-  word : operands_word code left.value right.value ≡ word_of instruction
-  word =
-      ap₂ (operands_word code) a.value_is b.value_is
-      ∙ sym (o.word_is A.result B.result)
+  word : word_of (op left.value right.value) ≡ word_of instruction
+  word = ap₂ (λ i j. word_of (op i j)) a.value_is b.value_is
 
   counted : right.count ≡ count + length A.program + length B.program
   counted = omega (arith, a.count_is, b.count_is)

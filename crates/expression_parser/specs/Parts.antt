@@ -1,5 +1,11 @@
 -- What reading a part of a text leaves: the parser's own way on, the instructions of the part's tree, or the refusal.
-use Rattle.std.specs.Prelude.{◌≡◌, Bool, cond, List, [], ◌∷◌, ◌++◌, map, ℕ, suc, ◌+◌, ◌-◌, ◌≤◌, ◌<◌, eqb, length, drop, get_or}
+use Rattle.std.specs.Prelude.{◌≡◌, List, [], ◌∷◌, ◌++◌, map, ℕ, suc, ◌+◌, ◌-◌, ◌≤◌, ◌<◌, length, drop}
+use Rattle.std.specs.declared.option.Option.{Option}
+use Rattle.std.specs.declared.option.Option.TheVariants.{None, Some}
+use Rattle.std.specs.declared.result.Result.{Result}
+use Rattle.std.specs.declared.result.Result.TheVariants.{Ok, Err}
+use Rattle.refusals.specs.declared.Refused.{Refused}
+use Rattle.refusals.specs.Places.{because}
 use Rattle.refusals.specs.declared.Refusal.{Refusal}
 use Rattle.refusals.specs.declared.Refusal.TheVariants as refusal
 use Rattle.refusals.specs.Refusals.{refusal_number}
@@ -12,22 +18,16 @@ use Rattle.expressions.specs.Parser.{Place, want, have, stopped, run, factor_at,
 use Rattle.expressions.specs.Compiled.{compiled}
 use Rattle.expression_parser.specs.declared.Begin.{Begin}
 use Rattle.expression_parser.specs.declared.Begin.TheVariants as begin
+use Rattle.expression_parser.specs.declared.Operands.{Operands}
+use Rattle.expression_parser.specs.declared.Operands.TheVariants as operands
+use Rattle.expression_parser.specs.declared.Sign.{Sign}
+use Rattle.expression_parser.specs.declared.Sign.TheVariants as sign
+use Rattle.expression_parser.specs.declared.Source.{Source}
+use Rattle.expression_parser.specs.declared.Reached.{Reached}
 use Rattle.expression_parser.specs.declared.Made.{Made}
-use Rattle.expression_parser.specs.declared.Part.{Part}
-use Rattle.expression_parser.specs.declared.Part.TheVariants as part
 use Rattle.expression_parser.specs.Words.{Keeps}
 
--- a text of m letters from a place on
-abbrev pub rest : ℕ → List ℕ → ℕ → List Kind
-rest m s at = map (kind m) (drop at s)
-
--- what may be read: a place in the text, with no more instructions so far than bytes before it
-pub record Readable (F m : ℕ) (s : List ℕ) (at count words : ℕ) : Type 0 where
-  pub scale_small : F ≤ top_scale
-  pub inputs_few : m ≤ 16
-  pub there : at ≤ length s
-  pub few : count ≤ at
-  pub words_few : words ≤ 512
+-- ---- bytes
 
 -- the byte that a sign is; no other kind has one
 abbrev pub byte : Kind → ℕ
@@ -41,35 +41,60 @@ byte (digit d) = 0
 byte (letter i) = 0
 byte other = 0
 
-pub record ReadableSign (c : Kind) (F m : ℕ) (s : List ℕ) (at count words : ℕ) : Type 0 where
-  pub readable : Readable F m s at count words
-  pub here : at < length s
-  pub sign : get_or s at 0 ≡ byte c
+-- a byte that begins no other factor than a number
+pub record NoOther (m b : ℕ) : Type 0 where
+  pub no_opens : b ≡ byte opens → ⊥
+  pub no_minus : b ≡ byte minus → ⊥
+  pub no_letter : 97 ≤ b → b - 97 < m → ⊥
 
--- the operands before a sign were read
-pub record LeftReadable (F m : ℕ) (s : List ℕ) (left : Made) (words : ℕ) : Type 0 where
-  pub scale_small : F ≤ top_scale
-  pub inputs_few : m ≤ 16
-  pub here : left.at < length s
-  pub few : left.count ≤ left.at
-  pub named : left.value < m + left.count
+-- how a factor begins
+abbrev pub BeginIs : ℕ → ℕ → Begin → Type 0
+BeginIs m b begin.Parenthesis = b ≡ byte opens
+BeginIs m b begin.Minus = b ≡ byte minus
+BeginIs m b (begin.Letter i) = (97 ≤ b) × (i ≡ b - 97) × (i < m)
+BeginIs m b begin.Number = NoOther m b
+
+pub record Begins (m b : ℕ) (how : Begin) : Type 0 where
+  pub is : BeginIs m b how
+
+-- the sign that a byte is between operands, if it is one
+abbrev pub SignIs : ℕ → Operands → Option Sign → Type 0
+SignIs b operands.Factors None = b ≡ byte star → ⊥
+SignIs b operands.Factors (Some sign.Times) = b ≡ byte star
+SignIs b operands.Factors (Some sign.Plus) = ⊥
+SignIs b operands.Factors (Some sign.Minus) = ⊥
+SignIs b operands.Products None = (b ≡ byte plus → ⊥) × (b ≡ byte minus → ⊥)
+SignIs b operands.Products (Some sign.Times) = ⊥
+SignIs b operands.Products (Some sign.Plus) = b ≡ byte plus
+SignIs b operands.Products (Some sign.Minus) = b ≡ byte minus
+
+pub record SignAt (b : ℕ) (o : Operands) (g : Option Sign) : Type 0 where
+  pub is : SignIs b o g
+
+-- what each operand is, and what they are joined to
+abbrev pub each_of : Operands → Level
+each_of operands.Factors = a_factor
+each_of operands.Products = a_product
+
+abbrev pub whole_of : Operands → Level
+whole_of operands.Factors = a_product
+whole_of operands.Products = a_sum
+
+-- ---- what may be read
+
+-- a place in the text, with no more instructions so far than bytes before it
+pub record Readable (s : Source) (from : Reached) (words : ℕ) : Type 0 where
+  pub scale_small : s.scale ≤ top_scale
+  pub inputs_few : s.inputs ≤ 16
+  pub there : from.at ≤ length s.text.now
+  pub few : from.count ≤ from.at
   pub words_few : words ≤ 512
 
--- the code of the instruction that a byte between products makes, 0 for none
-pub data Sign (b : ℕ) : ℕ → Type 0 where
-  a_plus : b ≡ byte plus → Sign b 2
-  a_minus : b ≡ byte minus → Sign b 3
-  none : (b ≡ byte plus → ⊥) → (b ≡ byte minus → ⊥) → Sign b 0
+-- ---- what a part leaves
 
--- and a star stands behind factors, a sign behind products
-pub record StarReadable (F m : ℕ) (s : List ℕ) (left : Made) (words : ℕ) : Type 0 where
-  pub operands : LeftReadable F m s left words
-  pub star_here : get_or s left.at 0 ≡ byte star
-
-pub record SignReadable (F m : ℕ) (s : List ℕ) (left : Made) (code words : ℕ) : Type 0 where
-  pub operands : LeftReadable F m s left words
-  pub sign_here : Sign (get_or s left.at 0) code
-  pub some : code ≡ 0 → ⊥
+-- a text of m letters from a place on
+abbrev pub rest : ℕ → List ℕ → ℕ → List Kind
+rest m s at = map (kind m) (drop at s)
 
 -- a part was read, where n more may be open: the parser goes on behind it with its tree, whatever is open around it; its
 -- instructions are kept behind those before
@@ -103,67 +128,30 @@ pub record ReadSo (l : Level) (F m n : ℕ) (s : List ℕ) (at count : ℕ) (old
   pub made : MadeSo l F m n s at count old new r
   pub ends : Ends l (rest m s r.at)
 
-abbrev pub PartIs : Level → ℕ → ℕ → ℕ → List ℕ → ℕ → ℕ → List ℕ → List ℕ → Part → Type 0
-PartIs l F m n s at count old new (part.Made r) = ReadSo l F m n s at count old new r
-PartIs l F m n s at count old new (part.Refused r p) = RefusedSo l m n s at old new r p
+-- the number of a part's value, with how far it goes
+abbrev pub made_at : ℕ → Reached → Made
+made_at v to = record { value = v; at = to.at; count = to.count }
 
-pub record PartSo (l : Level) (F m n : ℕ) (s : List ℕ) (at count : ℕ) (old new : List ℕ) (r : Part) : Type 0 where
-  pub is : PartIs l F m n s at count old new r
+abbrev pub PartIs : Level → Source → Reached → List ℕ → List ℕ → Reached → Result ℕ Refused → Type 0
+PartIs l s from old new to (Ok v) = ReadSo l s.scale s.inputs s.room s.text.now from.at from.count old new (made_at v to)
+PartIs l s from old new to (Err e) = RefusedSo l s.inputs s.room s.text.now from.at old new e.why e.place
 
--- a byte that begins a factor of another form than a number
-abbrev pub NoOther : List Kind → Type 0
-NoOther [] = Unit {0}
-NoOther (opens ∷ cs) = ⊥
-NoOther (closes ∷ cs) = Unit {0}
-NoOther (star ∷ cs) = Unit {0}
-NoOther (plus ∷ cs) = Unit {0}
-NoOther (minus ∷ cs) = ⊥
-NoOther (point ∷ cs) = Unit {0}
-NoOther (digit d ∷ cs) = Unit {0}
-NoOther (letter i ∷ cs) = ⊥
-NoOther (other ∷ cs) = Unit {0}
+pub record Part (l : Level) (s : Source) (from : Reached) (old new : List ℕ) (to : Reached) (r : Result ℕ Refused) : Type 0 where
+  pub is : PartIs l s from old new to r
 
--- a number opens nothing
-pub record AtAnyRoom (F m : ℕ) (s : List ℕ) (at count : ℕ) (old new : List ℕ) (r : Part) : Type 0 where
-  pub each : (n : ℕ) → PartSo a_factor F m n s at count old new r
+-- ---- parentheses
 
--- a sum that was read, with the parenthesis behind it
-abbrev pub closed_at : Bool → Made → Part
-closed_at is r =
-    cond is (part.Made (record { value = r.value; at = r.at + 1; count = r.count })) (part.Refused refusal.Misplaced r.at)
+-- one fewer may be open inside
+abbrev pub OpensTo : Source → Reached → Reached → Result Source Refused → Type 0
+OpensTo s from to (Ok t) = (s.room ≡ suc t.room) × (t ≡ record s { room = t.room }) × (to ≡ record from { at = from.at + 1 })
+OpensTo s from to (Err e) = (s.room ≡ 0) × (e ≡ because refusal.TooDeep from.at)
 
-abbrev pub closed_part : List ℕ → Part → Part
-closed_part s (part.Made r) = closed_at (eqb (get_or s r.at 0) 41) r
-closed_part s (part.Refused q p) = part.Refused q p
+pub record Opens (s : Source) (from to : Reached) (r : Result Source Refused) : Type 0 where
+  pub is : OpensTo s from to r
 
--- operands so far: of a product its factors, of a sum its products, with no star behind them
-pub record SumSoFar (F m n : ℕ) (s : List ℕ) (at count : ℕ) (old new : List ℕ) (r : Made) : Type 0 where
-  pub made : MadeSo a_sum F m n s at count old new r
-  pub no_star : Ends a_product (rest m s r.at)
+abbrev pub ClosesTo : ℕ → Reached → Reached → Result (Unit {0}) Refused → Type 0
+ClosesTo b from to (Ok u) = (b ≡ byte closes) × (to ≡ record from { at = from.at + 1 })
+ClosesTo b from to (Err e) = (b ≡ byte closes → ⊥) × (e ≡ because refusal.Misplaced from.at)
 
-abbrev pub SoFar : Level → ℕ → ℕ → ℕ → List ℕ → ℕ → ℕ → List ℕ → List ℕ → Made → Type 0
-SoFar a_factor F m n s at count old new r = MadeSo a_factor F m n s at count old new r
-SoFar a_product F m n s at count old new r = MadeSo a_product F m n s at count old new r
-SoFar a_sum F m n s at count old new r = SumSoFar F m n s at count old new r
-
--- one operand more, or a refusal, whatever was read before the first
-abbrev pub JoinedIs : Level → ℕ → ℕ → ℕ → List ℕ → ℕ → ℕ → List ℕ → List ℕ → Part → Type 0
-JoinedIs l F m n s at count old new (part.Made r) = SoFar l F m n s at count old new r
-JoinedIs l F m n s at count old new (part.Refused q p) = RefusedSo l m n s at old new q p
-
--- what is left to read falls
-abbrev pub Further : List ℕ → Made → Part → Type 0
-Further s left (part.Made r) = (left.at < r.at) × (r.at ≤ length s) × (r.count + left.at ≤ left.count + r.at)
-Further s left (part.Refused q p) = Unit {0}
-
-pub record JoinsSo (l : Level) (F m n : ℕ) (s start new : List ℕ) (left : Made) (r : Part) : Type 0 where
-  pub on : (at count : ℕ) (old : List ℕ) → SoFar l F m n s at count old start left → JoinedIs l F m n s at count old new r
-  pub long : length new ≡ length start
-  pub further : Further s left r
-
--- how a factor begins
-pub data Begins (m : ℕ) (s : List ℕ) (at : ℕ) : Begin → Type 0 where
-  with_parenthesis : at < length s → get_or s at 0 ≡ byte opens → Begins m s at begin.Parenthesis
-  with_minus : at < length s → get_or s at 0 ≡ byte minus → Begins m s at begin.Minus
-  with_letter : at < length s → 97 ≤ get_or s at 0 → get_or s at 0 - 97 < m → Begins m s at (begin.Letter (get_or s at 0 - 97))
-  with_number : NoOther (rest m s at) → Begins m s at begin.Number
+pub record Closes (b : ℕ) (from to : Reached) (r : Result (Unit {0}) Refused) : Type 0 where
+  pub is : ClosesTo b from to r

@@ -1,17 +1,16 @@
 -- What the instructions of a text keep to. Assumes nothing.
 use mathlib.Core.Path.{◌≡◌, ◌∙◌, ap, subst}
 use mathlib.Core.Bool.{Bool, true}
-use mathlib.Core.List.{List, [], ◌∷◌, ◌++◌, map}
+use mathlib.Core.List.{List, ◌++◌}
 use Prim.Native.Nat.{ℕ, suc, ◌+◌, ◌*◌, ◌^◌, ◌≤◌, ◌<◌}
 use native.Mathlib.Nat.{div-add-mod', mod-lt, one-le-pow, zero-lt-suc, mul-le-mul_right}
 use native.Mathlib.Omega.{arith}
-use lib.Dec.{eqb}
 use lib.IntN.{pos}
 use lib.ListN.{length, length-append}
 use borrow.Author.Tests.{eq-eqb, leb-true}
 use Rattle.rules.specs.Numbers.{M, Q}
 use Rattle.formulas.specs.declared.Instruction.{Instruction}
-use Rattle.formulas.specs.declared.Instruction.TheVariants.{Constant, Negate, Add, Subtract, Multiply, Coefficient}
+use Rattle.formulas.specs.declared.Instruction.TheVariants.{Constant, Add, Subtract, Multiply}
 use Rattle.formulas.specs.Formula.{Smaller}
 use Rattle.lists.specs.Each.{Each, none, one}
 use Rattle.expressions.specs.Tree.{Tree, input, written, negated, sum, difference, product}

@@ -1,8 +1,8 @@
 -- The instructions of a text, and exact arithmetic on both.
-use Rattle.std.specs.Prelude.{◌≡◌, Bool, true, cond, List, [], ◌∷◌, ◌++◌, ℕ, ◌+◌, ◌*◌, ◌/◌, ◌^◌, ◌<◌, leb, eqb, pos, nat_abs, neg_ℤ, ◌+ℤ◌, ◌-ℤ◌, ◌*ℤ◌, length, get_or}
+use Rattle.std.specs.Prelude.{◌≡◌, Bool, true, cond, List, [], ◌∷◌, ◌++◌, ℕ, ◌+◌, ◌^◌, ◌<◌, leb, pos, nat_abs, neg_ℤ, ◌+ℤ◌, ◌-ℤ◌, ◌*ℤ◌, length, get_or}
 use Rattle.std.proofs.Math.Nat.{one-le-pow}
 use Rattle.std.proofs.Common.{zero-lt-suc}
-use Rattle.rules.specs.Numbers.{M, Q}
+use Rattle.rules.specs.Numbers.{M}
 use Rattle.rules.specs.Values.{Fraction}
 use Rattle.rules.specs.Exact.{over_both, across}
 use Rattle.numerals.specs.Units.{units, is_exact}

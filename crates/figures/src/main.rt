@@ -2,41 +2,20 @@
 #![tactic(auto)]
 
 use refusals::{Refusal, number_of};
-use rules::{Ball, BallStep, Matryoshka, MatryoshkaStep, PlainStep};
-use std::io;
+use rules::{Ball, Matryoshka};
+use std::{fmt, io};
 
-fn say_refused(rt: &impl Print, question: &str, why: Refusal) -> io::Result<()> {
-    let number = number_of(why);
-    println!(rt; "{question}refused {number}")
-}
-
-fn say_plain(rt: &impl Print, question: &str, answer: PlainStep) -> io::Result<()> {
+fn say<T: fmt::Display + Drop>(
+    rt: &impl Print,
+    question: &str,
+    answer: Result<T, Refusal>,
+) -> io::Result<()> {
     match answer {
-        PlainStep::Value(x) => println!(rt; "{question}{x}"),
-        PlainStep::Refused(why) => say_refused(rt, question, why),
-    }
-}
-
-fn say_ball(rt: &impl Print, question: &str, answer: BallStep) -> io::Result<()> {
-    match answer {
-        BallStep::Value(b) => {
-            let centre = b.centre;
-            let margin = b.margin;
-            println!(rt; "{question}{centre} {margin}")
+        Ok(value) => println!(rt; "{question}{value}"),
+        Err(why) => {
+            let number = number_of(why);
+            println!(rt; "{question}refused {number}")
         }
-        BallStep::Refused(why) => say_refused(rt, question, why),
-    }
-}
-
-fn say_matryoshka(rt: &impl Print, question: &str, answer: MatryoshkaStep) -> io::Result<()> {
-    match answer {
-        MatryoshkaStep::Value(m) => {
-            let middle = m.middle;
-            let stray = m.stray;
-            let margin = m.margin;
-            println!(rt; "{question}{middle} {stray} {margin}")
-        }
-        MatryoshkaStep::Refused(why) => say_refused(rt, question, why),
     }
 }
 
@@ -54,12 +33,12 @@ fn small_products(rt: &impl Print) -> io::Result<()> {
         centre: -10,
         margin: 2,
     };
-    say_ball(
+    say(
         rt,
         "F 4: (24,3) times (-10,2) is ",
         balls::steps::multiply(4, x, y),
     )?;
-    say_ball(
+    say(
         rt,
         "F 4: (1,0) times (1,0) is ",
         balls::steps::multiply(4, one, one),
@@ -68,7 +47,7 @@ fn small_products(rt: &impl Print) -> io::Result<()> {
         centre: 8,
         margin: 0,
     };
-    say_ball(
+    say(
         rt,
         "F 4: (8,0) times (1,0) is ",
         balls::steps::multiply(4, up, one),
@@ -77,7 +56,7 @@ fn small_products(rt: &impl Print) -> io::Result<()> {
         centre: -8,
         margin: 0,
     };
-    say_ball(
+    say(
         rt,
         "F 4: (-8,0) times (1,0) is ",
         balls::steps::multiply(4, tie, one),
@@ -86,7 +65,7 @@ fn small_products(rt: &impl Print) -> io::Result<()> {
         centre: -9,
         margin: 0,
     };
-    say_ball(
+    say(
         rt,
         "F 4: (-9,0) times (1,0) is ",
         balls::steps::multiply(4, down, one),
@@ -104,7 +83,7 @@ fn whole_units(rt: &impl Print) -> io::Result<()> {
         centre: -5,
         margin: 2,
     };
-    say_ball(
+    say(
         rt,
         "F 0: (3,1) times (-5,2) is ",
         balls::steps::multiply(0, x, y),
@@ -121,12 +100,12 @@ fn whole_units(rt: &impl Print) -> io::Result<()> {
         centre: 0,
         margin: 1,
     };
-    say_ball(
+    say(
         rt,
         "F 0: (2147483646,1) plus (0,0) is ",
         balls::steps::add(last, none),
     )?;
-    say_ball(
+    say(
         rt,
         "F 0: (2147483646,1) plus (0,1) is ",
         balls::steps::add(last, doubt),
@@ -145,7 +124,7 @@ fn static_products(rt: &impl Print) -> io::Result<()> {
         stray: 2,
         margin: 1,
     };
-    say_matryoshka(
+    say(
         rt,
         "F 4: (24,3,1) times (-10,2,1) is ",
         matryoshki::steps::multiply(4, x, y),
@@ -155,7 +134,7 @@ fn static_products(rt: &impl Print) -> io::Result<()> {
         stray: 0,
         margin: 0,
     };
-    say_matryoshka(
+    say(
         rt,
         "F 4: (1,0,0) times (1,0,0) is ",
         matryoshki::steps::multiply(4, one, one),
@@ -170,7 +149,7 @@ fn static_products(rt: &impl Print) -> io::Result<()> {
         stray: 2,
         margin: 0,
     };
-    say_matryoshka(
+    say(
         rt,
         "F 4: (16,0,0) times (5,2,0) is ",
         matryoshki::steps::multiply(4, unit, z),
@@ -180,7 +159,7 @@ fn static_products(rt: &impl Print) -> io::Result<()> {
 
 // At scale 4 a tenth is 1.6 units: 2 with a margin of 1. An exact 2 beside it forgets what that rounding lost.
 fn tenths(rt: &impl Print) -> io::Result<()> {
-    say_ball(
+    say(
         rt,
         "F 4: the coefficient (2,1) is ",
         balls::steps::coefficient(2, 1),
@@ -197,12 +176,12 @@ fn tenths(rt: &impl Print) -> io::Result<()> {
         centre: 80,
         margin: 0,
     };
-    say_ball(
+    say(
         rt,
         "F 4: (2,1) times (80,0) is ",
         balls::steps::multiply(4, tenth, reading),
     )?;
-    say_ball(
+    say(
         rt,
         "F 4: (2,0) times (80,0) is ",
         balls::steps::multiply(4, exact, reading),
@@ -211,7 +190,7 @@ fn tenths(rt: &impl Print) -> io::Result<()> {
 }
 
 fn static_tenths(rt: &impl Print) -> io::Result<()> {
-    say_matryoshka(
+    say(
         rt,
         "F 4: the static coefficient (2,1) is ",
         matryoshki::steps::coefficient(2, 1),
@@ -231,12 +210,12 @@ fn static_tenths(rt: &impl Print) -> io::Result<()> {
         stray: 16,
         margin: 0,
     };
-    say_matryoshka(
+    say(
         rt,
         "F 4: (2,0,1) times (80,16,0) is ",
         matryoshki::steps::multiply(4, tenth, reading),
     )?;
-    say_matryoshka(
+    say(
         rt,
         "F 4: (2,0,0) times (80,16,0) is ",
         matryoshki::steps::multiply(4, exact, reading),
@@ -245,9 +224,9 @@ fn static_tenths(rt: &impl Print) -> io::Result<()> {
 }
 
 fn bare_limits(rt: &impl Print) -> io::Result<()> {
-    say_plain(rt, "M plus -1 is ", plain::steps::add(2147483647, -1))?;
-    say_plain(rt, "M plus 1 is ", plain::steps::add(2147483647, 1))?;
-    say_plain(rt, "negating M is ", plain::steps::negate(2147483647))?;
+    say(rt, "M plus -1 is ", plain::steps::add(2147483647, -1))?;
+    say(rt, "M plus 1 is ", plain::steps::add(2147483647, 1))?;
+    say(rt, "negating M is ", plain::steps::negate(2147483647))?;
     Ok(())
 }
 

@@ -1,5 +1,4 @@
 -- The laws of filling lists, one subject a file.
-pub mod AsNumbers
 pub mod Turns
 pub mod Listing
 pub mod Naming

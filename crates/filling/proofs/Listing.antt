@@ -5,7 +5,7 @@ use Prim.Native.Nat.{ℕ, ◌+◌, ◌≤◌, ◌<◌}
 use native.Mathlib.Omega.{arith}
 use lib.IntN.{ℤ}
 use lib.ListN.{length, set, length-map, get_or-map}
-use Rattle.whole.proofs.Machine.{back}
+use Rattle.whole.proofs.Machine.{back, back_is}
 use Rattle.lists.specs.Over.{over}
 use Rattle.lists.proofs.Front.{Filled, filled_none, filled_one, filled_all}
 use Rattle.rules.specs.Values.{Allowed}
@@ -19,8 +19,6 @@ use Rattle.packed.specs.declared.loaded.Loaded.{Loaded}
 use Rattle.packed.specs.Loading.{Loads}
 use Rattle.packed.specs.Walk.{DecodesFrom}
 use Rattle.packing.specs.Raw.{RawInstruction, raw, raw_of}
-use Rattle.filling.specs.declared.Numbers.{Numbers}
-use Rattle.filling.proofs.AsNumbers.{allowed_back}
 use Rattle.filling.proofs.Turns.{Turn, turn_long, turn_smaller, turn_here}
 
 -- the first k of them, in a list with a place for each
@@ -38,17 +36,14 @@ raw_small (Multiply a b) p = (omega arith, omega arith, omega arith)
 raw_small (Coefficient c r) p = (omega arith, omega arith, omega arith)
 raw_small (Reciprocal a) p = (omega arith, omega arith, omega arith)
 
+allowed_back : (z : ℤ) → Allowed z → back z ≡ z
+allowed_back z l = back_is z (omega arith)
+
 module _ {part : RawInstruction → ℤ} {s : List ℕ} {h : Header} {old : List ℤ} where
   pub listing_none : h.instructions ≤ length old → Listing part s h old old 0
   listing_none r = record { room = r; filled = filled_none (map part (map raw_of (meant s).program)) old }
 
   module _ {now : List ℤ} {k : ℕ} (w : Listing part s h old now k) where
-    pub listing_long : length now ≡ length old
-    listing_long = w.filled.as_long
-
-    pub listing_inside : k < h.instructions → k < length now
-    listing_inside more = omega (arith, w.room, w.filled.as_long)
-
     module _ {c : Cursor} (t : Turn s h c k) where
       long : length (map part (map raw_of (meant s).program)) ≡ h.instructions
       long = length-map (map raw_of (meant s).program) part ∙ length-map (meant s).program raw_of ∙ turn_long t
@@ -70,21 +65,21 @@ module _ {part : RawInstruction → ℤ} {s : List ℕ} {h : Header} {old : List
             }
 
 -- as the code keeps them
-module _ {s : List ℕ} {h : Header} {old now : List ℤ} {k : ℕ} {c : Cursor} {l : Loaded} {i : Instruction} {e : Cursor} {n : Numbers} where
+module _ {s : List ℕ} {h : Header} {old now : List ℤ} {k : ℕ} {c : Cursor} {l : Loaded} {i : Instruction} {e : Cursor} {code first second : ℤ} where
   pub codes_one : Listing (λ r. r.code) s h old now k → Turn s h c k → k < h.instructions → Loads s c l → DecodesFrom s l i e
-      → raw n.code n.first n.second ≡ raw_of i → Listing (λ r. r.code) s h old (set now k (back n.code)) (k + 1)
+      → raw code first second ≡ raw_of i → Listing (λ r. r.code) s h old (set now k (back code)) (k + 1)
   codes_one w t more loads from a =
       let small = (raw_small i (turn_smaller t more loads from)).0 in
       listing_one w t more loads from (ap (λ r. back r.code) a ∙ allowed_back (raw_of i).code small)
 
   pub firsts_one : Listing (λ r. r.first) s h old now k → Turn s h c k → k < h.instructions → Loads s c l → DecodesFrom s l i e
-      → raw n.code n.first n.second ≡ raw_of i → Listing (λ r. r.first) s h old (set now k (back n.first)) (k + 1)
+      → raw code first second ≡ raw_of i → Listing (λ r. r.first) s h old (set now k (back first)) (k + 1)
   firsts_one w t more loads from a =
       let small = (raw_small i (turn_smaller t more loads from)).1 in
       listing_one w t more loads from (ap (λ r. back r.first) a ∙ allowed_back (raw_of i).first small)
 
   pub seconds_one : Listing (λ r. r.second) s h old now k → Turn s h c k → k < h.instructions → Loads s c l → DecodesFrom s l i e
-      → raw n.code n.first n.second ≡ raw_of i → Listing (λ r. r.second) s h old (set now k (back n.second)) (k + 1)
+      → raw code first second ≡ raw_of i → Listing (λ r. r.second) s h old (set now k (back second)) (k + 1)
   seconds_one w t more loads from a =
       let small = (raw_small i (turn_smaller t more loads from)).2 in
       listing_one w t more loads from (ap (λ r. back r.second) a ∙ allowed_back (raw_of i).second small)

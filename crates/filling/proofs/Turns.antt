@@ -7,8 +7,6 @@ use native.Mathlib.Numerals.{add-one}
 use native.Mathlib.Omega.{arith}
 use lib.ListN.{length, get_or, drop}
 use lib.Seq.{drop-cons}
-use mir.Syntax.{w64}
-use mir.Val.{Fits}
 use Rattle.lists.specs.Each.{Each, one}
 use Rattle.refusals.specs.Answer.{value}
 use Rattle.refusals.proofs.Answers.{same_value}
@@ -88,9 +86,6 @@ module _ {s : List ℕ} {h : Header} {c : Cursor} {k : ℕ} (t : Turn s h c k) w
 
   pub turn_within : c.at ≤ 2 ^ 30
   turn_within = omega (arith, turn_near)
-
-  pub turn_offset : Fits w64 (k * 8)
-  turn_offset = record { fits = omega (arith, t.few, (limits_of t.there).instructions_few) }
 
   -- nothing is left to read: the outputs begin
   pub turn_ends : h.instructions ≤ k → AtOutputs s c

@@ -10,60 +10,25 @@ ghost use Rattle.walks.specs.Walks.{AtOutputs};
 ghost use Rattle.outputs.specs.Picking.{Pickable};
 ghost use Rattle.filling.specs.Filling.{parts_in, ProgramFills};
 
-use bits::{Cursor, Field};
+use bits::Cursor;
 use formulas::{Header, Instruction};
 use packed::loaded::load;
 use packed::walking::decode_ahead;
 
-// An instruction as its code and two fields; a missing field is 0.
-#[derive(Clone, Copy)]
-struct Numbers {
-    code: i64,
-    first: i64,
-    second: i64,
-}
-
-// At whatever scale: all that is permitted at another is at scale 0.
-fn numbers_of(i: Instruction) -> Numbers
+// An instruction as its code and two fields; a missing field is 0. At whatever scale: all that is permitted at another is
+// at scale 0.
+fn numbers_of(i: Instruction) -> (i64, i64, i64)
     requires { Smaller 0 1024 i }
-    ensures { raw result.code result.first result.second ≡ raw_of i }
+    ensures { raw result.0 result.1 result.2 ≡ raw_of i }
 {
     match i {
-        Instruction::Constant(c) => Numbers {
-            code: 0,
-            first: c,
-            second: 0,
-        },
-        Instruction::Negate(a) => Numbers {
-            code: 1,
-            first: a as i64,
-            second: 0,
-        },
-        Instruction::Add(a, b) => Numbers {
-            code: 2,
-            first: a as i64,
-            second: b as i64,
-        },
-        Instruction::Subtract(a, b) => Numbers {
-            code: 3,
-            first: a as i64,
-            second: b as i64,
-        },
-        Instruction::Multiply(a, b) => Numbers {
-            code: 4,
-            first: a as i64,
-            second: b as i64,
-        },
-        Instruction::Coefficient(c, r) => Numbers {
-            code: 5,
-            first: c,
-            second: r as i64,
-        },
-        Instruction::Reciprocal(a) => Numbers {
-            code: 6,
-            first: a as i64,
-            second: 0,
-        },
+        Instruction::Constant(c) => (0, c, 0),
+        Instruction::Negate(a) => (1, a as i64, 0),
+        Instruction::Add(a, b) => (2, a as i64, b as i64),
+        Instruction::Subtract(a, b) => (3, a as i64, b as i64),
+        Instruction::Multiply(a, b) => (4, a as i64, b as i64),
+        Instruction::Coefficient(c, r) => (5, c, r as i64),
+        Instruction::Reciprocal(a) => (6, a as i64, 0),
     }
 }
 
@@ -82,39 +47,27 @@ pub fn fill_program(
         × (seconds.new ≡ over (parts_in s.now).seconds seconds.old) }
 {
     let mut at = Cursor { at: 32 };
-    let mut k = 0;
-    while k < h.instructions {
+    for k in 0..h.instructions {
         let d = decode_ahead(s, load(s, at));
-        let i = d.instruction;
-        let next = d.next;
-        let n = numbers_of(i);
-        let code = n.code;
-        let first = n.first;
-        let second = n.second;
+        let (code, first, second) = numbers_of(d.instruction);
         codes[k] = code;
         firsts[k] = first;
         seconds[k] = second;
-        at = next;
-        k = k + 1;
+        at = d.next;
     }
     at
 }
 
-// The numbers of the `count` output fields from the cursor on.
+// The numbers of the `count` output fields from the cursor on. `outputs::pick` has the same loop, for the values that they
+// name: its jobs have readings and work lists, of which there are none here.
 pub fn fill_outputs(s: &[u8], c: Cursor, count: usize, outputs: &mut [i64])
     requires { Pickable s.now c count (places (meant s.now).header) (length outputs.old) }
     ensures { outputs.new ≡ over (parts_in s.now).outputs outputs.old }
 {
     let mut at = c;
-    let mut k = 0;
-    while k < count {
-        match at.field(s, 10) {
-            Field::Ended => return,
-            Field::Got(o, next) => {
-                outputs[k] = o as i64;
-                at = next;
-                k = k + 1;
-            }
-        }
+    for k in 0..count {
+        let (o, next) = at.field(s, 10).unwrap();
+        outputs[k] = o as i64;
+        at = next;
     }
 }

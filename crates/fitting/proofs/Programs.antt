@@ -1,34 +1,32 @@
 -- A turn of the loop over the instructions and of that over the outputs, in the code's shape. Assumes nothing.
 use mathlib.Core.Path.{◌≡◌, refl, sym, ◌∙◌, ap, subst, subst₂}
-use mathlib.Core.Bool.{Bool, true, false, not}
+use mathlib.Core.Bool.{true}
 use mathlib.Core.List.{List, [], ◌∷◌}
-use Prim.Native.Nat.{ℕ, zero, suc, ◌+◌, ◌*◌, ◌^◌, ◌≤◌, ◌<◌}
+use Prim.Native.Nat.{ℕ, zero, suc, ◌+◌, ◌^◌, ◌≤◌, ◌<◌}
 use native.Mathlib.Nat.{not-suc-le-zero, le_of_suc-le-suc}
 use native.Mathlib.Omega.{arith}
-use borrow.Author.Tests.{not-true, not-false}
-use lib.IntN.{ℤ, pos}
+use borrow.Author.Tests.{eqb-true}
+use lib.Dec.{eqb}
+use lib.IntN.{ℤ, pos, nat_abs}
 use lib.ListN.{length, get_or}
 use lib.Signed.{mag}
 use mir.Syntax.{w64}
+use mir.Val.{SFits}
 use mir.ValLaws.{to_z-of_z}
-use Rattle.whole.proofs.Cases.{ap₃, down}
+use Rattle.std.specs.declared.result.Result.TheVariants.{Ok, Err}
+use Rattle.whole.proofs.Cases.{ap₃, both, down}
 use Rattle.whole.proofs.Machine.{back}
 use Rattle.refusals.specs.declared.Refusal.{Refusal}
-use Rattle.refusals.specs.declared.Refusal.TheVariants as refusal
 use Rattle.refusals.specs.Answer.{value}
 use Rattle.refusals.proofs.Answers.{same_value, first_of}
-use Rattle.packed.specs.Items.{operand}
-use Rattle.packing.specs.Raw.{RawInstruction, raw, instructions_of}
-use Rattle.packing.specs.Slots.{Slot, instruction_slots, output_slots, several_slots, slots_width}
+use Rattle.packing.specs.declared.Handed.TheInside.{Inside}
+use Rattle.packing.specs.Lent.{lent}
+use Rattle.packing.specs.Raw.{RawInstruction, RawFormula, raw, instructions_of}
+use Rattle.packing.specs.Slots.{Slot, instruction_slots, program_slots, program_of, slots_width}
 use Rattle.packing.specs.Packing.{slots_tested}
 use Rattle.packing.proofs.Lengths.{instruction_wide}
-use Rattle.fitting.specs.declared.Size.{Size}
-use Rattle.fitting.specs.declared.Size.TheVariants.{Bits, Refused}
-use Rattle.whole.specs.Limits.{is_below}
-use Rattle.fitting.specs.Sizes.{Sizes}
-use Rattle.whole.proofs.Limits.{asked}
-use Rattle.fitting.proofs.Tests.{fits_operand, tested_fit, tested_unfit, all_fit, one_unfit}
-use Rattle.fitting.proofs.Summing.{Summing, summing_none, summing_more, summing_stops, summing_ends}
+use Rattle.fitting.specs.Sizes.{Size, Sizes}
+use Rattle.fitting.proofs.Summing.{Summing, summing_more, summing_stops, summing_ends}
 
 -- ---- instructions from three lists
 
@@ -56,96 +54,67 @@ instruction_at (c ∷ cs) (a ∷ fs) (b ∷ ss) (suc i) h k l =
 pub read_back : (xs : List ℤ) (i : ℕ) → mag (get_or xs i (pos 0)) < 2 ^ 63 → back (get_or xs i (pos 0)) ≡ get_or xs i (pos 0)
 read_back xs i s = to_z-of_z w64 (get_or xs i (pos 0)) (record { sfits = s })
 
-pub sizes_width : (ss : List Slot) {n : ℕ} → Sizes ss (Bits n) → slots_width ss ≡ n
+pub sizes_width : (ss : List Slot) {n : ℕ} → Sizes ss (Ok n) → slots_width ss ≡ n
 sizes_width ss z = same_value (first_of (slots_tested ss) (λ u. value (slots_width ss)) (sym z.answers)).then_was
 
-pub instruction_few : (F v : ℕ) (c a b : ℤ) {n : ℕ} → Sizes (instruction_slots F v (raw c a b)) (Bits n) → n ≤ 66
-instruction_few F v c a b z = subst (λ n. n ≤ 66) (sizes_width (instruction_slots F v (raw c a b)) z) (instruction_wide F v c a b)
+pub instruction_few : (F v : ℕ) (i : RawInstruction) {n : ℕ} → Sizes (instruction_slots F v i) (Ok n) → n ≤ 66
+instruction_few F v i z = subst (λ n. n ≤ 66) (sizes_width (instruction_slots F v i) z) (instruction_wide F v i.code i.first i.second)
 
--- the bits of the first k are summed up
-pub record Program (F m : ℕ) (cs fs ss : List ℤ) (k bits : ℕ) : Type 0 where
-  pub inside : k ≤ length cs
-  pub summed : Summing (instruction_slots F) m (instructions_of cs fs ss) k bits
+-- ---- one after another, as the code holds what is handed over
 
-module _ (F m : ℕ) (cs fs ss : List ℤ) where
-  pub program_none : Program F m cs fs ss 0 0
-  program_none = record { inside = omega arith; summed = summing_none (instruction_slots F) m (instructions_of cs fs ss) }
+module _ (h : Inside) {given : RawFormula} (holds : lent h ≡ given) where
+  module _ (long : given.as_long ≡ true) where
+    pub same_long : (length h.codes.now ≡ length h.firsts.now) × (length h.codes.now ≡ length h.seconds.now)
+    same_long =
+        let b = both (eqb (length h.codes.now) (length h.firsts.now)) _ (ap (λ (r : RawFormula). r.as_long) holds ∙ long) in
+        (eqb-true _ _ b.0, eqb-true _ _ b.1)
 
-  module _ {k bits : ℕ} (g : Program F m cs fs ss k bits) (e : length cs ≡ length fs) (f : length cs ≡ length ss) where
-    pub program_ends : length cs ≤ k
-        → Sizes (several_slots (instruction_slots F) m (instructions_of cs fs ss)) (Bits bits)
-    program_ends l =
-        summing_ends (instruction_slots F) m (instructions_of cs fs ss) g.summed
-        (omega (arith, length_instructions_of cs fs ss e f, g.inside))
+    pub program_long : length given.program ≡ length h.codes.now
+    program_long =
+        ap (λ (r : RawFormula). length r.program) (sym holds)
+        ∙ length_instructions_of h.codes.now h.firsts.now h.seconds.now same_long.0 same_long.1
 
-    module _ (l : k < length cs) (sc : mag (get_or cs k (pos 0)) < 2 ^ 63) (sf : mag (get_or fs k (pos 0)) < 2 ^ 63)
-        (st : mag (get_or ss k (pos 0)) < 2 ^ 63) {r₀ : Size}
-        (z : Sizes (instruction_slots F (m + k)
-        (raw (back (get_or cs k (pos 0))) (back (get_or fs k (pos 0))) (back (get_or ss k (pos 0))))) r₀) where
-      within : k < length (instructions_of cs fs ss)
-      within = omega (arith, length_instructions_of cs fs ss e f)
+    module _ {scale inputs k bits : ℕ} (g : Summing (instruction_slots scale) inputs given.program k bits) where
+      module _ (l : k < length h.codes.now) (sc : mag (get_or h.codes.now k (pos 0)) < 2 ^ 63)
+          (sf : mag (get_or h.firsts.now k (pos 0)) < 2 ^ 63) (st : mag (get_or h.seconds.now k (pos 0)) < 2 ^ 63) {r : Size}
+          (z : Sizes (instruction_slots scale (inputs + k)
+          (raw (back (get_or h.codes.now k (pos 0))) (back (get_or h.firsts.now k (pos 0))) (back (get_or h.seconds.now k (pos 0))))) r) where
+        kept : Sizes (instruction_slots scale (inputs + k) (get_or given.program k no_instruction)) r
+        kept =
+            subst (λ i. Sizes (instruction_slots scale (inputs + k) i) r)
+            (ap₃ raw (read_back h.codes.now k sc) (read_back h.firsts.now k sf) (read_back h.seconds.now k st)
+            ∙ sym
+            (instruction_at h.codes.now h.firsts.now h.seconds.now k l (omega (arith, same_long.0)) (omega (arith, same_long.1)))
+            ∙ ap (λ (r : RawFormula). get_or r.program k no_instruction) holds)
+            z
 
-      kept : {r : Size} → r₀ ≡ r → Sizes (instruction_slots F (m + k) (get_or (instructions_of cs fs ss) k no_instruction)) r
-      kept q =
-          subst₂ (λ i r. Sizes (instruction_slots F (m + k) i) r)
-          (ap₃ raw (read_back cs k sc) (read_back fs k sf) (read_back ss k st)
-          ∙ sym (instruction_at cs fs ss k l (omega arith) (omega arith)))
-          q z
+        pub program_more : {n : ℕ} → r ≡ Ok n → Summing (instruction_slots scale) inputs given.program (k + 1) (bits + n)
+        program_more {n} q =
+            let here = subst (Sizes _) q kept in
+            summing_more (instruction_slots scale) inputs given.program no_instruction g (omega (arith, program_long))
+            (instruction_few scale (inputs + k) _ here) here
 
-      few : {n : ℕ} → r₀ ≡ Bits n → n ≤ 66
-      few q = instruction_few F (m + k) _ _ _ (kept q)
+  module _ (fF : SFits w64 h.scale) (fm : SFits w64 h.inputs) {scale inputs : ℕ} (eF : scale ≡ nat_abs (back h.scale))
+      (em : inputs ≡ nat_abs (back h.inputs)) where
+    as_given : {r : Size} → Sizes (program_slots scale inputs given.program) r
+        → Sizes (program_of given) r
+    as_given {r} z =
+        subst₂ (λ (i n : ℕ). Sizes (program_slots i n given.program) r)
+        (eF ∙ ap nat_abs (to_z-of_z w64 h.scale fF) ∙ ap (λ (r : RawFormula). nat_abs r.scale) holds)
+        (em ∙ ap nat_abs (to_z-of_z w64 h.inputs fm) ∙ ap (λ (r : RawFormula). nat_abs r.inputs) holds) z
 
-      pub program_stops : {r : Refusal} → r₀ ≡ Refused r
-          → Sizes (several_slots (instruction_slots F) m (instructions_of cs fs ss)) (Refused r)
-      program_stops q =
-          summing_stops (instruction_slots F) m (instructions_of cs fs ss) no_instruction g.summed within (kept q)
+    module _ (long : given.as_long ≡ true) {k bits : ℕ} (g : Summing (instruction_slots scale) inputs given.program k bits) where
+      pub program_ends : length h.codes.now ≤ k
+          → Sizes (program_of given) (Ok bits)
+      program_ends l =
+          as_given (summing_ends (instruction_slots scale) inputs given.program g (omega (arith, program_long long, g.some)))
 
-      pub program_near : {n : ℕ} → r₀ ≡ Bits n → length cs ≤ 512 → bits + n < 2 ^ 64
-      program_near {n} q h = omega (arith, g.summed.few, few q)
-
-      pub program_more : {n : ℕ} → r₀ ≡ Bits n → Program F m cs fs ss (k + 1) (bits + n)
-      program_more {n} q =
-          record {
-            inside = omega arith;
-            summed =
-                summing_more (instruction_slots F) m (instructions_of cs fs ss) no_instruction g.summed within (few q)
-                (kept q);
-          }
-
--- ---- outputs
-
-module _ (v : ℕ) (os : List ℤ) where
-  -- the first k fit
-  pub record Results (k : ℕ) : Type 0 where
-    pub inside : k ≤ length os
-    pub summed : Summing (output_slots v) 0 os k (10 * k)
-
-  pub results_none : Results 0
-  results_none = record { inside = omega arith; summed = summing_none (output_slots v) 0 os }
-
-  module _ {k : ℕ} (g : Results k) where
-    pub results_end : length os ≤ k → Sizes (several_slots (output_slots v) 0 os) (Bits (10 * k))
-    results_end l = summing_ends (output_slots v) 0 os g.summed (omega (arith, g.inside))
-
-    module _ (l : k < length os) (s : mag (get_or os k (pos 0)) < 2 ^ 63) {t : Bool}
-        (z : t ≡ is_below v (back (get_or os k (pos 0)))) where
-      this : {u : Bool} → t ≡ u → is_below v (get_or os k (pos 0)) ≡ u
-      this q = asked v {z = get_or os k (pos 0)} (record { sfits = s }) z q
-
-      pub results_stop : not t ≡ true → Sizes (several_slots (output_slots v) 0 os) (Refused refusal.Operand)
-      results_stop q =
-          summing_stops (output_slots v) 0 os (pos 0) g.summed l
-          (one_unfit (tested_unfit (operand v) (get_or os k (pos 0)) [] (fits_operand v (get_or os k (pos 0)) ∙ this (not-true t q))))
-
-      pub results_more : not t ≡ false → Results (k + 1)
-      results_more q =
-          record {
-            inside = omega arith;
-            summed =
-                subst (Summing (output_slots v) 0 os (k + 1)) ten
-                (summing_more (output_slots v) 0 os (pos 0) g.summed l (omega arith)
-                (all_fit (tested_fit (operand v) (get_or os k (pos 0)) [] (fits_operand v (get_or os k (pos 0)) ∙ this (not-false t q))) refl));
-          }
-        where
-          ten : 10 * k + 10 ≡ 10 * (k + 1)
-          ten = omega arith
+      pub program_stops : {r : Refusal} → k < length h.codes.now → mag (get_or h.codes.now k (pos 0)) < 2 ^ 63
+          → mag (get_or h.firsts.now k (pos 0)) < 2 ^ 63 → mag (get_or h.seconds.now k (pos 0)) < 2 ^ 63
+          → Sizes (instruction_slots scale (inputs + k)
+          (raw (back (get_or h.codes.now k (pos 0))) (back (get_or h.firsts.now k (pos 0))) (back (get_or h.seconds.now k (pos 0))))) (Err r)
+          → Sizes (program_of given) (Err r)
+      program_stops l sc sf st z =
+          as_given
+          (summing_stops (instruction_slots scale) inputs given.program no_instruction g (omega (arith, program_long long))
+          (kept long g l sc sf st z))

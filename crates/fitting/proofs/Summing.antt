@@ -7,13 +7,13 @@ use native.Mathlib.Nat.{add-zero}
 use native.Mathlib.Omega.{arith}
 use lib.ListN.{length, get_or, drop, drop_of_length-le}
 use lib.Seq.{drop-cons}
+use Rattle.std.specs.declared.result.Result.TheVariants.{Ok, Err}
 use Rattle.refusals.specs.declared.Refusal.{Refusal}
 use Rattle.refusals.specs.Answer.{Answer, value, refused, refuse, then}
 use Rattle.packed.specs.Items.{complaint}
 use Rattle.packing.specs.Slots.{Slot, several_slots, slots_width}
 use Rattle.packing.specs.Packing.{fits, slots_tested}
 use Rattle.packing.proofs.Lengths.{width_append}
-use Rattle.fitting.specs.declared.Size.TheVariants.{Bits, Refused}
 use Rattle.fitting.specs.Sizes.{sized, Sizes}
 
 -- ---- tests one after another
@@ -98,7 +98,7 @@ module _ {A : Type 0} (s : ℕ → A → List Slot) (v : ℕ) (l : List A) where
         by_parts (value m) (refused n) = refl
         by_parts (refused n) b = refl
 
-    pub summing_stops : {r : Refusal} → Sizes (s (v + i) (get_or l i d)) (Refused r) → Sizes (several_slots s v l) (Refused r)
+    pub summing_stops : {r : Refusal} → Sizes (s (v + i) (get_or l i d)) (Err r) → Sizes (several_slots s v l) (Err r)
     summing_stops {r} z =
         record {
           answers =
@@ -106,7 +106,7 @@ module _ {A : Type 0} (s : ℕ → A → List Slot) (v : ℕ) (l : List A) where
               ∙ unrolled;
         }
 
-    pub summing_more : {n : ℕ} → n ≤ 66 → Sizes (s (v + i) (get_or l i d)) (Bits n) → Summing (i + 1) (bits + n)
+    pub summing_more : {n : ℕ} → n ≤ 66 → Sizes (s (v + i) (get_or l i d)) (Ok n) → Summing (i + 1) (bits + n)
     summing_more {n} w z =
         record {
           some = omega arith;
@@ -120,7 +120,7 @@ module _ {A : Type 0} (s : ℕ → A → List Slot) (v : ℕ) (l : List A) where
         grouped : (k : ℕ) → bits + n + k ≡ bits + (n + k)
         grouped k = omega arith
 
-  pub summing_ends : {i bits : ℕ} → Summing i bits → i ≡ length l → Sizes (several_slots s v l) (Bits bits)
+  pub summing_ends : {i bits : ℕ} → Summing i bits → i ≡ length l → Sizes (several_slots s v l) (Ok bits)
   summing_ends {i} {bits} g e =
       record {
         answers =

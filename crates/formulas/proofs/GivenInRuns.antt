@@ -34,7 +34,7 @@ use Rattle.formulas.specs.GivenInRuns.{Terms, plain_terms, ball_terms, matryoshk
 use Rattle.formulas.proofs.Judging.{Judgement, good, negative, too_large, judgement, not_bad, judged_good, good_judged, negative_judged, large_judged}
 use Rattle.formulas.proofs.Judging.{RefusedAt, refused_lowest, each_counted, none_other, miscounted, counted_tested, Unfit, other_count, bad_reading}
 use Rattle.formulas.proofs.Fitting.{not_let_in, not_let_in_number}
-use Rattle.formulas.proofs.Lawful.{Lawful}
+use Rattle.formulas.specs.Lawful.{Lawful}
 use Rattle.formulas.proofs.Walks.{never_stopped, same_values, run_long}
 use Rattle.formulas.proofs.Jobs.{Starts, starts, start_is, job_refused, job_started}
 

@@ -7,10 +7,11 @@ use native.Mathlib.Omega.{arith}
 use borrow.Author.Tests.{leb-true, le-leb}
 use lib.Dec.{leb}
 use lib.ListN.{length, get_or}
+use Rattle.std.specs.declared.result.Result.TheVariants.{Err}
+use Rattle.refusals.specs.Places.{because}
 use Rattle.whole.proofs.Cases.{both}
 use Rattle.refusals.specs.declared.Refusal.{Refusal}
-use Rattle.refusals.specs.declared.Reply.{Reply}
-use Rattle.refusals.specs.declared.Reply.TheVariants.{Refused}
+use Rattle.refusals.specs.Said.{Reply}
 use Rattle.refusals.specs.Refusals.{refusal_number, AtStep, out_of_reach, divided_by_zero}
 use Rattle.refusals.specs.Answer.{Answer, value, refused, then}
 use Rattle.refusals.specs.Places.{Where, Placed, refused_at, elsewhere, refuse_at}
@@ -23,7 +24,7 @@ use Rattle.formulas.specs.Kinds.{Kind, tested}
 use Rattle.formulas.specs.Job.{Started, roomy, if_room, start, Result, refused_first, stopped_at, done, walk_ended, started_run, if_started, job, work_of, outputs_of, said, Lent, lent_start, lent_job, Kept}
 use Rattle.formulas.proofs.Walks.{run_long, run_stops}
 use Rattle.formulas.proofs.Fitting.{not_let_in_number}
-use Rattle.formulas.proofs.Lawful.{Lawful}
+use Rattle.formulas.specs.Lawful.{Lawful}
 
 -- what it means that a job starts
 pub record Starts (K : Kind) (a : Answer Formula) (given : K.Readings) (work output : ℕ) (st : Started K) : Type 0 where
@@ -130,9 +131,9 @@ module _ {K : Kind} (law : Lawful K) {a : Answer Formula} {given : K.Readings} {
         gives = subst (λ (i : Result K.Value). K.Holds (outputs_of i) old.output new.output) (sym e) o;
       }
 
-  pub kept_refused : {q : Refusal} {k : ℕ} → lent_start K a given old ≡ refuse_at q k → Kept K a given old old (Refused q k)
+  pub kept_refused : {q : Refusal} {k : ℕ} → lent_start K a given old ≡ refuse_at q k → Kept K a given old old (Err (because q k))
   kept_refused {q} {k} e =
-      kept_as (Refused q k) (job_refused K a given (K.room old.work) (K.room old.output) e) refl
+      kept_as (Err (because q k)) (job_refused K a given (K.room old.work) (K.room old.output) e) refl
       (law.holds_none old.work) (law.holds_none old.output)
 
 -- two outcomes that a job's contract allows are equal: the reply, and every place of every lent list
@@ -220,12 +221,12 @@ nothing_written law was now e h = law.holds_one [] was now was (rw e at h) (law.
 
 module _ {K : Kind} (law : Lawful K) {a : Answer Formula} {given : K.Readings} {old new : Lent K} {q : Refusal} {k : ℕ} where
   -- "a refusal writes no output"
-  pub refused_keeps_outputs : Kept K a given old new (Refused q k) → new.output ≡ old.output
+  pub refused_keeps_outputs : Kept K a given old new (Err (because q k)) → new.output ≡ old.output
   refused_keeps_outputs p = nothing_written law old.output new.output (refused_outputs (lent_job K a given old) p.says) p.gives
 
   -- "On refusals 1 to 10 all lent memory keeps its contents."; a later number "leaves what 11 leaves when a step of a run
   -- meets it; otherwise it writes nothing"
-  pub refused_early_keeps_all : Kept K a given old new (Refused q k) → (AtStep (refusal_number q) → ⊥) → new ≡ old
+  pub refused_early_keeps_all : Kept K a given old new (Err (because q k)) → (AtStep (refusal_number q) → ⊥) → new ≡ old
   refused_early_keeps_all p l =
       ap₂ (λ (w o : K.Lists). record { work = w; output = o })
       (nothing_written law old.work new.work (by_job (lent_job K a given old) refl p.says) p.works)

@@ -174,11 +174,11 @@ module _ (g : ℕ → Reading) where
 
 -- ---- all that a caller brings
 
-counts_agree : (m : ℕ) (ns : List ℕ) → each_counts m ns ≡ true → All (λ n. n ≡ m) ns
+pub counts_agree : (m : ℕ) (ns : List ℕ) → each_counts m ns ≡ true → All (λ n. n ≡ m) ns
 counts_agree m [] e = none
 counts_agree m (n ∷ ns) e = let b = both (eqb n m) (each_counts m ns) e in one (eqb-true n m b.0) (counts_agree m ns b.1)
 
-counts_differ : (m : ℕ) (ns : List ℕ) → each_counts m ns ≡ false → OneOther m ns
+pub counts_differ : (m : ℕ) (ns : List ℕ) → each_counts m ns ≡ false → OneOther m ns
 counts_differ m [] e = absurd (let z : ◌≡◌ {A = ℕ} 0 1 = cc in omega arith)
 counts_differ m (n ∷ ns) e = by_test (eqb n m) refl e (λ u. counts_differ m ns u)
   where

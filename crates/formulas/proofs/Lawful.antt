@@ -9,9 +9,6 @@ use Rattle.lists.specs.Over.{least}
 use Rattle.lists.specs.All.{All}
 use Rattle.lists.proofs.Over.{least_both}
 use Rattle.lists.proofs.PartOf.{itself, part_start, part_again, part_front, part_long}
-use Rattle.refusals.specs.Refusals.{AtStep}
-use Rattle.refusals.specs.Answer.{value, refused}
-use Rattle.rules.specs.Operation.{Operation}
 use Rattle.rules.specs.Lists.{BallLists, MatryoshkaLists}
 use Rattle.rules.specs.Values.{plain_reach, ball_reach, matryoshka_reach}
 use Rattle.rules.specs.Reciprocals.{plain_may_be_zero, ball_may_be_zero, matryoshka_may_be_zero}
@@ -21,26 +18,9 @@ use Rattle.rules.specs.Matryoshki.{matryoshka_result}
 use Rattle.rules.proofs.Reach.{step_numbers, plain_legal, ball_legal, matryoshka_legal}
 use Rattle.rules.proofs.Lists.{balls_many, balls_start, balls_one, balls_front, balls_over, centres_as_long, margins_as_long}
 use Rattle.rules.proofs.Lists.{matryoshki_many, matryoshki_start, matryoshki_one, matryoshki_front, matryoshki_over, middles_as_long, strays_as_long, static_as_long}
-use Rattle.formulas.specs.Kinds.{Kind, plain_kind, ball_kind, matryoshka_kind, tested}
+use Rattle.formulas.specs.Kinds.{plain_kind, ball_kind, matryoshka_kind}
+use Rattle.formulas.specs.Lawful.{Lawful}
 use Rattle.formulas.proofs.Fitting.{let_in, plain_fit, ball_fit, ball_many, domain_fit, domain_many}
-
--- as many values as were asked for, each legal
-pub record Values (K : Kind) (m : ℕ) (vs : List K.Value) : Type 0 where
-  pub many : length vs ≡ m
-  pub legal : All K.Legal vs
-
-pub record Lawful (K : Kind) : Type 0 where
-  pub rule_legal : (F : ℕ) (o : Operation K.Value) {v : K.Value} → K.rule F o ≡ value v → K.Legal v
-  pub rule_refused : (F : ℕ) (o : Operation K.Value) {n : ℕ} → K.rule F o ≡ refused n → AtStep n
-  pub tested_values : (m : ℕ) (g : K.Readings) {vs : List K.Value} → tested K m g ≡ value vs → Values K m vs
-  pub front_many : (n : ℕ) (l : K.Lists) → n ≤ K.room l → length (K.front n l) ≡ n
-  pub holds_none : (l : K.Lists) → K.Holds [] l l
-  pub holds_front : (n : ℕ) (l : K.Lists) → n ≤ K.room l → K.Holds (K.front n l) l l
-  pub holds_over : (vs ws : List K.Value) (old now new : K.Lists) → length vs ≤ length ws → K.Holds vs old now → K.Holds ws now new
-      → K.Holds ws old new
-  pub front_holds : (vs : List K.Value) (n : ℕ) (old now : K.Lists) → length vs ≡ n → K.Holds vs old now → K.front n now ≡ vs
-  pub room_holds : (vs : List K.Value) (old now : K.Lists) → length vs ≤ K.room old → K.Holds vs old now → K.room now ≡ K.room old
-  pub holds_one : (vs : List K.Value) (old a b : K.Lists) → K.Holds vs old a → K.Holds vs old b → a ≡ b
 
 pub plain_lawful : Lawful plain_kind
 plain_lawful =

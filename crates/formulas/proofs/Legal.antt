@@ -9,7 +9,7 @@ use Rattle.refusals.specs.Answer.{Answer}
 use Rattle.formulas.specs.Formula.{Formula, WellFormed}
 use Rattle.formulas.specs.Kinds.{Kind}
 use Rattle.formulas.proofs.Walks.{run_keeps}
-use Rattle.formulas.proofs.Lawful.{Lawful}
+use Rattle.formulas.specs.Lawful.{Lawful}
 use Rattle.formulas.proofs.Jobs.{made_many, Does}
 
 pub outputs_legal : {K : Kind} → Lawful K → (a : Answer Formula) (given : K.Readings) (work output : ℕ) {vs os : List K.Value}

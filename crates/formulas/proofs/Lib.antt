@@ -9,6 +9,7 @@ pub mod Covering
 pub mod Judging
 pub mod Fitting
 pub mod Lawful
+pub mod Putting
 pub mod Jobs
 pub mod Legal
 pub mod GivenInRuns

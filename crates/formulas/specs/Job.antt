@@ -1,7 +1,7 @@
 -- Document 01, "Numbered replies and their order": a whole job, once for the three kinds.
 use Rattle.std.specs.Prelude.{◌≡◌, Bool, cond, ◌&&◌, List, [], map, ℕ, ◌-◌, leb, length, get_or}
 use Rattle.refusals.specs.declared.Refusal.TheVariants as refusal
-use Rattle.refusals.specs.declared.Reply.{Reply}
+use Rattle.refusals.specs.Said.{Reply}
 use Rattle.refusals.specs.Answer.{Answer, value, refused, refuse, then}
 use Rattle.refusals.specs.Places.{Placed, elsewhere}
 use Rattle.refusals.specs.Said.{Said, answered, refuses, reply_said}

@@ -1,6 +1,6 @@
 -- The three kinds of values that a formula runs on: "plain (bare readings), ball (a centre and a margin each), admit (a
 -- matryoshka each)".
-use Rattle.std.specs.Prelude.{◌≡◌, List, map, ℕ, ℤ, pos, nat_abs, length, take}
+use Rattle.std.specs.Prelude.{◌≡◌, List, [], ◌∷◌, ◌++◌, map, ℕ, ◌≤◌, ◌<◌, ℤ, pos, nat_abs, length, get_or, take}
 use Rattle.lists.specs.Over.{over, least}
 use Rattle.refusals.specs.Answer.{Answer, value, then}
 use Rattle.refusals.specs.Places.{Placed}
@@ -88,6 +88,18 @@ matryoshka_kind =
       front = λ n l. matryoshki (take n l.middles) (take n l.strays) (take n l.margins);
       Holds = HoldMatryoshki;
     }
+
+-- what stands at place i of the lists
+pub record Stands (K : Kind) (i : ℕ) (l : K.Lists) (v : K.Value) : Type 0 where
+  pub is : (made : ℕ) → i < made → made ≤ K.room l → v ≡ get_or (K.front made l) i K.nothing
+
+-- what reading i stands for
+pub record StandsFor (K : Kind) (i : ℕ) (g : K.Readings) (v : K.Value) : Type 0 where
+  pub is : v ≡ get_or (K.values g) i K.nothing
+
+-- a value put at place i, behind those before it
+pub record Puts (K : Kind) (i : ℕ) (v : K.Value) (old new : K.Lists) : Type 0 where
+  pub holds : K.Holds (K.front i old ++ v ∷ []) old new
 
 -- the m values of what a caller brings, or the refusal
 abbrev pub tested : (K : Kind) → ℕ → K.Readings → Placed (List K.Value)

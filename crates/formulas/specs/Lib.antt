@@ -4,6 +4,7 @@ pub mod Formula
 pub mod Run
 pub mod Readings
 pub mod Kinds
+pub mod Lawful
 pub mod Job
 pub mod GivenInRuns
 pub mod ExactRun

@@ -2,7 +2,7 @@
 use mathlib.Core.Path.{◌≡◌, refl}
 use mathlib.Core.Bool.{true}
 use mathlib.Core.List.{List}
-use mathlib.Core.Logic.{◌⊎◌, inl, inr}
+use mathlib.Core.Logic.{◌⊎◌}
 use Prim.Native.Nat.{ℕ, ◌+◌, ◌*◌, ◌/◌, ◌≤◌, ◌<◌, zero-le}
 use native.Mathlib.Omega.{arith}
 use lib.Dec.{lit≤}
@@ -103,17 +103,11 @@ module _ (s : List ℕ) (x : ℕ) (ahead : Ahead 57 (bits s) x) where
                   instructions_fine =
                       good 4 17 instructions (lit≤ tt) (lit≤ tt) (lit≤ tt) four (between 0 513 _ zero-le n)
 
-                  outputs_out : (field_at x 27 5 < 1) ⊎ (17 ≤ field_at x 27 5) → HeaderRefused s refusal.Count
+                  pub outputs_out : (field_at x 27 5 < 1) ⊎ (17 ≤ field_at x 27 5) → HeaderRefused s refusal.Count
                   unfolding header
                   outputs_out l =
                       let e = bad 4 27 outputs (lit≤ tt) (lit≤ tt) (lit≤ tt) four l in
                       record { is = rw (version_fine, scale_fine, inputs_fine, instructions_fine, e) }
-
-                  pub no_outputs : field_at x 27 5 < 1 → HeaderRefused s refusal.Count
-                  no_outputs l = outputs_out (inl l)
-
-                  pub outputs_wrong : 17 ≤ field_at x 27 5 → HeaderRefused s refusal.Count
-                  outputs_wrong l = outputs_out (inr l)
 
                   pub header_whole : 1 ≤ field_at x 27 5 → field_at x 27 5 < 17 → HeaderWhole s x (record { at = 32 })
                   unfolding header
@@ -130,3 +124,6 @@ module _ (s : List ℕ) (x : ℕ) (ahead : Ahead 57 (bits s) x) where
                         is = rw (version_fine, scale_fine, inputs_fine, instructions_fine, e);
                         well = record { limits = limits; past = refl };
                       }
+
+-- what `pass` finds, test after test
+pub ruleset found = (no_version, version_wrong, no_scale, scale_wrong, no_inputs, inputs_wrong, no_instructions, instructions_wrong, outputs_out, header_whole)

@@ -1,5 +1,7 @@
 -- What passing the header gives, over the bytes that were read.
 use Rattle.std.specs.Prelude.{◌≡◌, List, ℕ, ◌+◌, ◌-◌, ◌*◌, ◌/◌, ◌%◌, ◌^◌, ◌≤◌, length}
+use Rattle.std.specs.declared.result.Result.{Result}
+use Rattle.std.specs.declared.result.Result.TheVariants.{Ok, Err}
 use Rattle.refusals.specs.declared.Refusal.{Refusal}
 use Rattle.refusals.specs.Answer.{value, refuse}
 use Rattle.bits.specs.declared.Cursor.{Cursor}
@@ -9,8 +11,6 @@ use Rattle.formulas.specs.declared.Header.{Header}
 use Rattle.formulas.specs.Formula.{InLimits}
 use Rattle.packed.specs.Items.{read}
 use Rattle.packed.specs.Format.{header}
-use Rattle.heading.specs.declared.Passed.{Passed}
-use Rattle.heading.specs.declared.Passed.TheVariants as passed
 
 -- a header's limits, and where the cursor stands after it
 pub record WellHeaded (h : Header) (c : Cursor) : Type 0 where
@@ -42,7 +42,11 @@ pub record HeaderWhole (s : List ℕ) (x : ℕ) (c : Cursor) : Type 0 where
   pub is : read header (bits s) ≡ value (record { got = header_of x; left = before s c })
   pub well : WellHeaded (header_of x) c
 
+-- the place after what was passed, or the refusal
+abbrev pub Passed : Type 0
+Passed = Result Cursor Refusal
+
 -- what passing the header gave, where x is ahead of the first bit
 abbrev pub HeaderPassed : List ℕ → ℕ → Passed → Type 0
-HeaderPassed s x (passed.At c) = HeaderWhole s x c
-HeaderPassed s x (passed.Refused r) = HeaderRefused s r
+HeaderPassed s x (Ok c) = HeaderWhole s x c
+HeaderPassed s x (Err r) = HeaderRefused s r

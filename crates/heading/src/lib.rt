@@ -10,63 +10,48 @@ use bits::Cursor;
 use formulas::Header;
 use refusals::Refusal;
 
-// The place after what was passed, or the refusal.
-#[derive(Clone, Copy)]
-pub enum Passed {
-    At(Cursor),
-    Refused(Refusal),
-}
-
 // Each field must be there, and then be permitted.
-pub fn pass(s: &[u8], x: u64) -> Passed
+#[tactic(auto, using(crate::proofs::Headings::found))]
+pub fn pass(s: &[u8], x: u64) -> Result<Cursor, Refusal>
     requires { Ahead 57 (bits s.now) x }
     ensures { HeaderPassed s.now x result }
 {
     let long = s.len();
+    let h = header_of(x);
     if long < 1 {
-        return Passed::Refused(Refusal::Ended);
+        return Err(Refusal::Ended);
     }
     if (x >> 57) % 128 != 1 {
-        return Passed::Refused(Refusal::Version);
+        return Err(Refusal::Version);
     }
     if long < 2 {
-        return Passed::Refused(Refusal::Ended);
+        return Err(Refusal::Ended);
     }
-    if 31 <= (x >> 52) % 32 {
-        return Passed::Refused(Refusal::Scale);
+    if 31 <= h.scale {
+        return Err(Refusal::Scale);
     }
     if long < 3 {
-        return Passed::Refused(Refusal::Ended);
+        return Err(Refusal::Ended);
     }
-    if 17 <= (x >> 47) % 32 {
-        return Passed::Refused(Refusal::Count);
+    if 17 <= h.inputs {
+        return Err(Refusal::Count);
     }
     if long < 4 {
-        return Passed::Refused(Refusal::Ended);
+        return Err(Refusal::Ended);
     }
-    if 513 <= (x >> 37) % 1024 {
-        return Passed::Refused(Refusal::Count);
+    if 513 <= h.instructions || h.outputs < 1 || 17 <= h.outputs {
+        return Err(Refusal::Count);
     }
-    if (x >> 32) % 32 < 1 {
-        return Passed::Refused(Refusal::Count);
-    }
-    if 17 <= (x >> 32) % 32 {
-        return Passed::Refused(Refusal::Count);
-    }
-    Passed::At(Cursor { at: 32 })
+    Ok(Cursor { at: 32 })
 }
 
 pub fn header_of(x: u64) -> Header
     ensures { result ≡ header_of x }
 {
-    let scale = ((x >> 52) % 32) as u32;
-    let inputs = ((x >> 47) % 32) as usize;
-    let instructions = ((x >> 37) % 1024) as usize;
-    let outputs = ((x >> 32) % 32) as usize;
     Header {
-        scale,
-        inputs,
-        instructions,
-        outputs,
+        scale: ((x >> 52) % 32) as u32,
+        inputs: ((x >> 47) % 32) as usize,
+        instructions: ((x >> 37) % 1024) as usize,
+        outputs: ((x >> 32) % 32) as usize,
     }
 }

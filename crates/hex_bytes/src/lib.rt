@@ -1,69 +1,42 @@
 // Bytes in lower-case hex.
 #![tactic(auto)]
 
-ghost use Rattle.std.specs.Prelude.{◌≡◌, ◌+◌, ◌≤◌, length};
+ghost use Rattle.std.specs.Prelude.{◌≡◌, ◌+◌, ◌<◌, ◌≤◌, length, IfSome};
 ghost use Rattle.parsing.specs.ParsingAnswers.{Gathers};
-ghost use Rattle.hex_bytes.specs.Hex.{hex_digit, hex_byte, hex, hex_front, digit_answer};
+ghost use Rattle.hex_bytes.specs.Hex.{hex_digit, hex_byte, hex, hex_front};
 
-use parsing::Gathered;
-
-#[derive(Clone, Copy)]
-pub enum Digit {
-    Got(u8),
-    Malformed,
-}
-
-fn digit_of(b: u8) -> Digit
-    ensures { digit_answer result ≡ hex_digit b }
+#[tactic(auto, unfolding(crate::specs::Hex::hex_digit))]
+fn digit_of(b: u8) -> Option<u8>
+    ensures is { result ≡ hex_digit b }
+    ensures small { IfSome result (λ x. x < 16) }
 {
-    if b < 48 {
-        return Digit::Malformed;
+    match b {
+        b'0'..=b'9' => Some(b - b'0'),
+        b'a'..=b'f' => Some(b - b'a' + 10),
+        _ => None,
     }
-    if b <= 57 {
-        return Digit::Got(b - 48);
-    }
-    if b < 97 {
-        return Digit::Malformed;
-    }
-    if b <= 102 {
-        return Digit::Got(b - 87);
-    }
-    Digit::Malformed
 }
 
 // The byte of two digits.
-fn byte(a: u8, b: u8) -> Digit
-    ensures { digit_answer result ≡ hex_byte a b }
+#[tactic(auto, unfolding(crate::specs::Hex::hex_byte))]
+fn byte(a: u8, b: u8) -> Option<u8>
+    ensures { result ≡ hex_byte a b }
 {
-    match digit_of(a) {
-        Digit::Malformed => Digit::Malformed,
-        Digit::Got(x) => match digit_of(b) {
-            Digit::Malformed => Digit::Malformed,
-            Digit::Got(y) => Digit::Got(16 * x + y),
-        },
-    }
+    Some(16 * digit_of(a)? + digit_of(b)?)
 }
 
 // The bytes that the text stands for, to the front of `out`.
-pub fn read(s: &[u8], out: &mut [u8]) -> Gathered
+pub fn read(s: &[u8], out: &mut [u8]) -> Option<usize>
     requires { length s.now ≤ length out.old + length out.old }
     ensures { Gathers (hex s.now) (hex_front s.now)
         out.old out.new result }
 {
-    let mut at = 0;
-    let mut n = 0;
-    while at < s.len() {
-        if s.len() - at < 2 {
-            return Gathered::Malformed;
-        }
-        match byte(s[at], s[at + 1]) {
-            Digit::Malformed => return Gathered::Malformed,
-            Digit::Got(x) => {
-                out[n] = x;
-                n = n + 1;
-                at = at + 2;
-            }
-        }
+    for n in 0..s.len() / 2 {
+        out[n] = byte(s[2 * n], s[2 * n + 1])?;
     }
-    Gathered::Got(n)
+    if s.len() % 2 == 0 {
+        Some(s.len() / 2)
+    } else {
+        None
+    }
 }

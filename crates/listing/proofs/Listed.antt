@@ -1,27 +1,20 @@
--- The lines of values: one more at the end, how long all can be, and the three kinds of line as one. Assumes nothing.
-use mathlib.Core.Path.{◌≡◌, refl, sym, ◌∙◌, ap, ap₂}
-use mathlib.Core.List.{List, [], ◌∷◌, ◌++◌, append_assoc, append-nil}
-use Prim.Native.Nat.{ℕ, zero, suc, ◌+◌, ◌*◌, ◌^◌, ◌≤◌, ◌<◌}
-use native.Mathlib.Nat.{mul-suc, not-suc-le-zero, le_of_lt}
-use native.Mathlib.Numerals.{add-one}
-use native.Mathlib.Omega.{arith}
-use lib.IntN.{ℤ, pos}
-use lib.ListN.{length, get_or, take, length-append, length-take}
-use lib.Seq.{length-take-le}
-use lib.Signed.{mag}
-use mir.Syntax.{w64}
-use mir.Val.{hbits}
-use mir.ValLaws.{to_z-of_z}
-use Rattle.whole.proofs.Machine.{back}
+-- The lines of values: none yet, room for one more, one more, all; and the values of each kind. Assumes nothing.
+use Rattle.std.proofs.Common.{◌≡◌, ℕ, suc, ◌+◌, ◌*◌, ◌<◌, ◌≤◌, refl, sym, ◌∙◌, ap, ap₂, subst, List, [], ◌∷◌, ◌++◌, length, get_or, take, append_assoc, append-nil, length-append, length-take-le, get_or-take, ℤ, pos, mul-suc, ◌⊎◌, inl, inr, arith}
+use Rattle.std.proofs.lemmas.Bool.{cases_lt}
+use Rattle.std.proofs.lemmas.List.{get_or_append_left, get_or_push, ext_get_or}
 use Rattle.rules.specs.declared.Matryoshka.{Matryoshka}
+use Rattle.rules.specs.declared.Ball.{Ball}
+use Rattle.rules.specs.Balls.{ball}
 use Rattle.rules.specs.Matryoshki.{matryoshka}
-use Rattle.rules.specs.Lists.{balls, matryoshki}
+use Rattle.rules.specs.Lists.{balls, matryoshki, no_ball, no_matryoshka}
+use Rattle.rules.proofs.Lists.{balls_long}
+use Rattle.lists.proofs.Joined.{joined_at, joined_long}
 use Rattle.printing.specs.Decimal.{digits_of, decimal, signed_decimal}
+use Rattle.lists.specs.Joined.{joined}
 use Rattle.lists.specs.Written.{Wrote}
 use Rattle.lists.proofs.Again.{wrote_long, wrote_then, wrote_same, wrote_nothing}
-use Rattle.listing.specs.OutputLines.{plain_fields, ball_fields, matryoshka_fields, line, listed}
-use Rattle.listing.specs.OutputLines.{field_if, shown, first_lines, Listable}
-use Rattle.listing.proofs.Line.{line_short}
+use Rattle.printing.proofs.Digits.{decimal_short}
+use Rattle.listing.specs.OutputLines.{plain_fields, ball_fields, matryoshka_fields, line, listed, Lists}
 
 module _ {A : Type 0} (fields : A → List ℕ) where
   listed_more : (i : ℕ) (vs : List A) (v : A)
@@ -36,121 +29,99 @@ module _ {A : Type 0} (fields : A → List ℕ) where
       ∙ ap (λ (n : ℕ). listed fields (suc i) vs ++ line fields n v) here)
       ∙ sym (append_assoc (line fields i u) (listed fields (suc i) vs) (line fields (i + suc (length vs)) v))
 
-listed_short : (k i : ℕ) (vs : List Matryoshka) → length (listed (shown k) i vs) ≤ 90 * length vs
-unfolding listed
-listed_short k i [] = omega arith
-listed_short k i (v ∷ vs) =
-    let all = length-append (line (shown k) i v) (listed (shown k) (suc i) vs) in
-    omega (arith, mul-suc 90 (length vs), all, line_short k i v, listed_short k (suc i) vs)
+  module _ (short : (v : A) → length (fields v) ≤ 64) where
+    line_short : (i : ℕ) (v : A) → length (line fields i v) ≤ 90
+    line_short i v =
+        omega (
+          arith,
+          length-append ((121 ∷ decimal i) ++ fields v) (10 ∷ []),
+          length-append (121 ∷ decimal i) (fields v),
+          decimal_short i,
+          short v,
+        )
 
--- the first n of three lists, as values: how many, and one more
-triples_long : (n : ℕ) (cs : List ℤ) (ss ms : List ℕ) → n ≤ length cs → n ≤ length ss → n ≤ length ms
-    → length (matryoshki (take n cs) (take n ss) (take n ms)) ≡ n
-triples_long zero cs ss ms p q r = refl
-triples_long (suc n) [] ss ms p q r = absurd (not-suc-le-zero p)
-triples_long (suc n) (c ∷ cs) [] ms p q r = absurd (not-suc-le-zero q)
-triples_long (suc n) (c ∷ cs) (s ∷ ss) [] p q r = absurd (not-suc-le-zero r)
-triples_long (suc n) (c ∷ cs) (s ∷ ss) (m ∷ ms) p q r =
-    ap suc (triples_long n cs ss ms (omega arith) (omega arith) (omega arith))
+    listed_short : (i : ℕ) (vs : List A) → length (listed fields i vs) ≤ 90 * length vs
+    unfolding listed
+    listed_short i [] = omega arith
+    listed_short i (v ∷ vs) =
+        let all = length-append (line fields i v) (listed fields (suc i) vs) in
+        omega (arith, mul-suc 90 (length vs), all, line_short i v, listed_short (suc i) vs)
 
-triples_next : (n : ℕ) (cs : List ℤ) (ss ms : List ℕ) → n < length cs → n < length ss → n < length ms
-    → matryoshki (take (suc n) cs) (take (suc n) ss) (take (suc n) ms)
-    ≡ matryoshki (take n cs) (take n ss) (take n ms)
-    ++ (matryoshka (get_or cs n (pos 0)) (get_or ss n 0) (get_or ms n 0) ∷ [])
-triples_next n [] ss ms p q r = absurd (not-suc-le-zero p)
-triples_next n (c ∷ cs) [] ms p q r = absurd (not-suc-le-zero q)
-triples_next n (c ∷ cs) (s ∷ ss) [] p q r = absurd (not-suc-le-zero r)
-triples_next zero (c ∷ cs) (s ∷ ss) (m ∷ ms) p q r = refl
-triples_next (suc n) (c ∷ cs) (s ∷ ss) (m ∷ ms) p q r =
-    ap (λ l. matryoshka c s m ∷ l) (triples_next n cs ss ms (omega arith) (omega arith) (omega arith))
-
--- a loop that writes a line a turn: none yet, room for one more, one more
-module _ (k : ℕ) (cs : List ℤ) (ss ms : List ℕ) {old : List ℕ} {at count : ℕ}
-    (lent : Listable count at cs ss ms old) where
-  pub lines_none : Wrote (first_lines k 0 cs ss ms) at old old at
+-- a loop that writes a line a turn
+module _ {A : Type 0} (fields : A → List ℕ) {gives : ℕ → A → Type 0} {at : ℕ} {old : List ℕ} where
+  pub lists_none : at ≤ length old → Lists fields gives 0 at old old at
   unfolding listed
-  lines_none = wrote_nothing (omega (arith, lent.room))
+  lists_none l = record { values = []; many = refl; given = λ i d h. absurd (omega arith); writes = wrote_nothing l }
 
-  module _ {now : List ℕ} {p i : ℕ} (w : Wrote (first_lines k i cs ss ms) at old now p) (more : i < count) where
-    here_cs : i < length cs
-    here_cs = omega (arith, lent.middles_there)
+  module _ {i p : ℕ} {now : List ℕ} (l : Lists fields gives i at old now p) where
+    pub lists_room : ((v : A) → length (fields v) ≤ 64) → {n : ℕ} → i < n → n ≤ 16 → at + 1600 ≤ length old → p + 90 ≤ length now
+    lists_room short m few r =
+        omega (arith, listed_short fields short 0 l.values, l.many, wrote_long l.writes, l.writes.after)
 
-    here_ss : i < length ss
-    here_ss = omega (arith, lent.strays_there)
+    pub lists_next : {v : A} {new : List ℕ} {q : ℕ} → gives i v → Wrote (line fields i v) p now new q
+        → Lists fields gives (i + 1) at old new q
+    lists_next {v} g w =
+        record {
+          values = l.values ++ v ∷ [];
+          many = omega (arith, length-append l.values (v ∷ []), l.many);
+          given = λ k d h. by_place k d h (cases_lt k i);
+          writes =
+              let here : 0 + length l.values ≡ i = omega (arith, l.many) in
+              let one = listed_more fields 0 l.values v ∙ ap (λ n. listed fields 0 l.values ++ line fields n v) here in
+              wrote_same (sym one) (wrote_then l.writes w);
+        }
+      where
+        by_place : (k : ℕ) (d : A) → k < i + 1 → (k < i) ⊎ (i ≤ k) → gives k (get_or (l.values ++ v ∷ []) k d)
+        by_place k d h (inl m) = rw (get_or_append_left l.values (v ∷ []) d k (omega (arith, l.many))) (l.given k d m)
+        by_place k d h (inr m) =
+            let e : k ≡ i = omega arith in
+            rw (e, get_or_push l.values v d i l.many) g
 
-    here_ms : i < length ms
-    here_ms = omega (arith, lent.margins_there)
+    pub lists_all : {n : ℕ} → i ≤ n → n ≤ i → Lists fields gives n at old now p
+    lists_all a b = let e : i ≡ _ = omega arith in subst (λ n. Lists fields gives n at old now p) e l
 
-    long : length (matryoshki (take i cs) (take i ss) (take i ms)) ≡ i
-    long = triples_long i cs ss ms (le_of_lt here_cs) (le_of_lt here_ss) (le_of_lt here_ms)
+-- the values are known place by place: those of each kind, of which n stand in lists
+module _ {old now : List ℕ} {at n r : ℕ} where
+  wrote_values : {A : Type 0} (fields : A → List ℕ) (d : A) (values vs : List A) → length values ≡ n
+      → Wrote (listed fields 0 values) at old now r → length vs ≡ n → ((i : ℕ) → i < n → get_or values i d ≡ get_or vs i d)
+      → Wrote (listed fields 0 vs) at old now r
+  wrote_values fields d values vs many w e h =
+      wrote_same (ap (listed fields 0) (ext_get_or d values vs (many ∙ sym e) (λ i m. h i (omega (arith, many))))) w
 
-    pub lines_room : p + 90 ≤ length now
-    lines_room =
-        let short = listed_short k 0 (matryoshki (take i cs) (take i ss) (take i ms)) in
-        omega (arith, short, long, wrote_long w, w.after, lent.few, lent.room)
+  pub plain_told : (values xs : List ℤ) → length values ≡ n → Wrote (listed plain_fields 0 values) at old now r
+      → n ≤ length xs → ((i : ℕ) → i < n → get_or values i (pos 0) ≡ get_or xs i (pos 0))
+      → Wrote (listed plain_fields 0 (take n xs)) at old now r
+  plain_told values xs many w p h =
+      wrote_values plain_fields (pos 0) values (take n xs) many w (length-take-le n xs p) (λ i l. h i l ∙ sym (get_or-take n xs i (pos 0) l))
 
-    pub lines_next : {new : List ℕ} {q : ℕ} → mag (get_or cs i (pos 0)) < 2 ^ hbits w64
-        → Wrote (line (shown k) i (matryoshka (back (get_or cs i (pos 0))) (get_or ss i 0) (get_or ms i 0))) p now new q
-        → Wrote (first_lines k (i + 1) cs ss ms) at old new q
-    lines_next f v =
-        let vs = matryoshki (take i cs) (take i ss) (take i ms) in
-        let held = to_z-of_z w64 (get_or cs i (pos 0)) (record { sfits = f }) in
-        let here : 0 + length vs ≡ i = omega (arith, long) in
-        let one =
-        ap (λ (n : ℕ). first_lines k n cs ss ms) (add-one i)
-        ∙ ap (listed (shown k) 0) (triples_next i cs ss ms here_cs here_ss here_ms)
-        ∙ listed_more (shown k) 0 vs (matryoshka (get_or cs i (pos 0)) (get_or ss i 0) (get_or ms i 0))
-        ∙ ap₂ (λ (n : ℕ) (z : ℤ). listed (shown k) 0 vs ++ line (shown k) n (matryoshka z (get_or ss i 0) (get_or ms i 0)))
-        here (sym held) in
-        wrote_same (sym one) (wrote_then w v)
+  pub balls_told : (values : List Ball) (cs : List ℤ) (rs : List ℕ) → length values ≡ n
+      → Wrote (listed ball_fields 0 values) at old now r → n ≤ length cs → n ≤ length rs
+      → ((i : ℕ) → i < n → get_or values i no_ball ≡ ball (get_or cs i (pos 0)) (get_or rs i 0))
+      → Wrote (listed ball_fields 0 (balls (take n cs) (take n rs))) at old now r
+  balls_told values cs rs many w p q h =
+      let c = length-take-le n cs p in
+      let m = length-take-le n rs q in
+      wrote_values ball_fields no_ball values (balls (take n cs) (take n rs)) many w (balls_long (take n cs) (take n rs) (c ∙ sym m) ∙ c)
+      (λ i l. h i l ∙ sym (joined_at ball (take n cs) (take n rs) i (pos 0) 0 (omega (arith, c)) (omega (arith, m))
+      ∙ ap₂ ball (get_or-take n cs i (pos 0) l) (get_or-take n rs i 0 l)))
 
-  pub lines_all : {now : List ℕ} {p i : ℕ} → Wrote (first_lines k i cs ss ms) at old now p → i ≤ count → count ≤ i
-      → Wrote (first_lines k count cs ss ms) at old now p
-  lines_all {i = i} w l r = let e : i ≡ count = omega arith in wrote_same (ap (λ (n : ℕ). first_lines k n cs ss ms) e) w
-
--- lines of one field, and of two, whatever the lists hold that they do not show
-plain_lines : (i : ℕ) (cs : List ℤ) (ss ms : List ℕ) → length cs ≤ length ss → length cs ≤ length ms
-    → listed (shown 1) i (matryoshki cs ss ms) ≡ listed plain_fields i cs
-unfolding listed shown field_if
-plain_lines i [] ss ms p q = refl
-plain_lines i (c ∷ cs) [] ms p q = absurd (not-suc-le-zero p)
-plain_lines i (c ∷ cs) (s ∷ ss) [] p q = absurd (not-suc-le-zero q)
-plain_lines i (c ∷ cs) (s ∷ ss) (m ∷ ms) p q =
-    ap₂ (λ (l rest : List ℕ). (121 ∷ decimal i) ++ l ++ (10 ∷ []) ++ rest)
-    (append-nil ((32 ∷ signed_decimal c) ++ []) ∙ append-nil (32 ∷ signed_decimal c))
-    (plain_lines (suc i) cs ss ms (omega arith) (omega arith))
-
-ball_lines : (i : ℕ) (cs : List ℤ) (ss ms : List ℕ) → length cs ≤ length ss
-    → listed (shown 2) i (matryoshki cs ss ms) ≡ listed ball_fields i (balls cs ms)
-unfolding listed shown field_if
-ball_lines i [] ss ms p = refl
-ball_lines i (c ∷ cs) [] ms p = absurd (not-suc-le-zero p)
-ball_lines i (c ∷ cs) (s ∷ ss) [] p = refl
-ball_lines i (c ∷ cs) (s ∷ ss) (m ∷ ms) p =
-    ap₂ (λ (l rest : List ℕ). (121 ∷ decimal i) ++ (l ++ (32 ∷ decimal m)) ++ (10 ∷ []) ++ rest)
-    (append-nil (32 ∷ signed_decimal c))
-    (ball_lines (suc i) cs ss ms (omega arith))
-
--- what the lines of each kind are, once they are written
-module _ (cs : List ℤ) (ss ms : List ℕ) (n : ℕ) {old now : List ℕ} {at r : ℕ} where
-  pub plain_told : Wrote (first_lines 1 n cs ss ms) at old now r → n ≤ length ss → n ≤ length ms
-      → Wrote (listed plain_fields 0 (take n cs)) at old now r
-  plain_told w p q =
-      let l : length (take n cs) ≤ n = omega (arith, length-take n cs) in
-      let s : length (take n cs) ≤ length (take n ss) = omega (arith, l, length-take-le n ss p) in
-      let m : length (take n cs) ≤ length (take n ms) = omega (arith, l, length-take-le n ms q) in
-      wrote_same (plain_lines 0 (take n cs) (take n ss) (take n ms) s m) w
-
-  pub balls_told : Wrote (first_lines 2 n cs ss ms) at old now r → n ≤ length ss
-      → Wrote (listed ball_fields 0 (balls (take n cs) (take n ms))) at old now r
-  balls_told w p =
-      let s : length (take n cs) ≤ length (take n ss) = omega (arith, length-take n cs, length-take-le n ss p) in
-      wrote_same (ball_lines 0 (take n cs) (take n ss) (take n ms) s) w
-
-  pub matryoshki_told : Wrote (first_lines 3 n cs ss ms) at old now r
-      → Wrote (listed matryoshka_fields 0 (matryoshki (take n cs) (take n ss) (take n ms))) at old now r
-  unfolding shown field_if
-  matryoshki_told w = w
+  pub matryoshki_told : (values : List Matryoshka) (cs : List ℤ) (ss rs : List ℕ) → length values ≡ n
+      → Wrote (listed matryoshka_fields 0 values) at old now r → n ≤ length cs → n ≤ length ss → n ≤ length rs
+      → ((i : ℕ) → i < n → get_or values i no_matryoshka ≡ matryoshka (get_or cs i (pos 0)) (get_or ss i 0) (get_or rs i 0))
+      → Wrote (listed matryoshka_fields 0 (matryoshki (take n cs) (take n ss) (take n rs))) at old now r
+  matryoshki_told values cs ss rs many w p q t h =
+      let pair : ℕ → ℕ → ℕ × ℕ = λ s r. (s, r) in
+      let value : ℤ → ℕ × ℕ → Matryoshka = λ c p. matryoshka c p.0 p.1 in
+      let sides : List (ℕ × ℕ) = joined pair (take n ss) (take n rs) in
+      let a = length-take-le n cs p in
+      let b = length-take-le n ss q in
+      let d = length-take-le n rs t in
+      let long : length sides ≡ n = joined_long pair (take n ss) (take n rs) (b ∙ sym d) ∙ b in
+      wrote_values matryoshka_fields no_matryoshka values (joined value (take n cs) sides) many w (joined_long value (take n cs) sides (a ∙ sym long) ∙ a)
+      (λ i l. h i l ∙ sym (joined_at value (take n cs) sides i (pos 0) (0, 0) (omega (arith, a)) (omega (arith, long))
+      ∙ ap₂ value (get_or-take n cs i (pos 0) l)
+      (joined_at pair (take n ss) (take n rs) i 0 0 (omega (arith, b)) (omega (arith, d))
+      ∙ ap₂ pair (get_or-take n ss i 0 l) (get_or-take n rs i 0 l))))
 
 -- the document's example, "y0 9 9 4" and LF
 pub example : listed matryoshka_fields 0 (matryoshka (pos 9) 9 4 ∷ [])

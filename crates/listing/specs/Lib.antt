@@ -1,2 +1,3 @@
 -- The lines that the program prints of a run's outputs, as bytes.
 pub mod OutputLines
+pub mod Short

@@ -1,53 +1,63 @@
 // The line of one output.
-ghost use Rattle.std.specs.Prelude.{◌+◌, ◌≤◌, length};
-ghost use Rattle.rules.specs.Matryoshki.{matryoshka};
+ghost use Rattle.std.specs.Prelude.{ℕ, ◌+◌, ◌≤◌, List, length};
 ghost use Rattle.lists.specs.Written.{Wrote};
-ghost use Rattle.listing.specs.OutputLines.{field_if, shown, line};
+ghost use Rattle.listing.specs.OutputLines.{plain_fields, ball_fields, matryoshka_fields, line};
+ghost use Rattle.listing.specs.Short.{plain_short, ball_short, matryoshka_short};
 
 use printing::bytes::put;
 use printing::numbers::{put_marked, put_marked_signed};
+use rules::{Ball, Matryoshka};
 
-// A field after its space, where the line has it.
-fn put_field(there: bool, n: u64, out: &mut [u8], at: usize) -> usize
-    requires { at + 21 ≤ length out.old }
-    ensures { Wrote (field_if there n) at out.old out.new result }
-{
-    if there {
-        return put_marked(b' ', n, out, at);
+// A value's fields, each behind a space.
+pub(crate) trait Fields {
+    ghost fields: { Self → List ℕ };
+
+    fn put(self, out: &mut [u8], at: usize) -> usize
+        requires { at + 64 ≤ length out.old }
+        ensures { Wrote (fields self) at out.old out.new result };
+
+    ghost short: { (v : Self) → length (fields v) ≤ 64 };
+}
+
+impl Fields for i64 {
+    ghost fields = { plain_fields };
+
+    ghost short = { plain_short };
+
+    fn put(self, out: &mut [u8], at: usize) -> usize {
+        put_marked_signed(b' ', self, out, at)
     }
-    at
 }
 
-// The fields of a value: 1 (the middle), 2 (the middle and the margin) or 3.
-fn put_fields(
-    fields: usize,
-    middle: i64,
-    stray: u64,
-    margin: u64,
-    out: &mut [u8],
-    at: usize,
-) -> usize
-    requires { at + 64 ≤ length out.old }
-    ensures { Wrote (shown fields (matryoshka middle stray margin)) at out.old out.new result }
-{
-    let valued = put_marked_signed(b' ', middle, out, at);
-    let strayed = put_field(fields >= 3, stray, out, valued);
-    put_field(fields >= 2, margin, out, strayed)
+impl Fields for Ball {
+    ghost fields = { ball_fields };
+
+    ghost short = { ball_short };
+
+    fn put(self, out: &mut [u8], at: usize) -> usize {
+        let next = put_marked_signed(b' ', self.centre, out, at);
+        put_marked(b' ', self.margin, out, next)
+    }
 }
 
-pub(crate) fn put_line(
-    fields: usize,
-    i: usize,
-    middle: i64,
-    stray: u64,
-    margin: u64,
-    out: &mut [u8],
-    at: usize,
-) -> usize
+impl Fields for Matryoshka {
+    ghost fields = { matryoshka_fields };
+
+    ghost short = { matryoshka_short };
+
+    fn put(self, out: &mut [u8], at: usize) -> usize {
+        let next = put_marked_signed(b' ', self.middle, out, at);
+        let strayed = put_marked(b' ', self.stray, out, next);
+        put_marked(b' ', self.margin, out, strayed)
+    }
+}
+
+// `y` and the index, the fields, the end of the line.
+pub(crate) fn put_line<T: Fields>(i: usize, value: T, out: &mut [u8], at: usize) -> usize
     requires { at + 90 ≤ length out.old }
-    ensures { Wrote (line (shown fields) i (matryoshka middle stray margin)) at out.old out.new result }
+    ensures { Wrote (line T.fields i value) at out.old out.new result }
 {
     let named = put_marked(b'y', i as u64, out, at);
-    let listed = put_fields(fields, middle, stray, margin, out, named);
-    put(b'\n', out, listed)
+    let shown = value.put(out, named);
+    put(b'\n', out, shown)
 }

@@ -1,32 +1,28 @@
 // A line for each output, of index 0 on.
-ghost use Rattle.std.specs.Prelude.{◌+◌, ◌≤◌, length, take};
+ghost use Rattle.std.specs.Prelude.{ℕ, ◌+◌, ◌≤◌, ◌<◌, length, take};
 ghost use Rattle.rules.specs.Lists.{balls, matryoshki};
 ghost use Rattle.lists.specs.Written.{Wrote};
 ghost use Rattle.listing.specs.OutputLines.{plain_fields, ball_fields, matryoshka_fields, listed};
-ghost use Rattle.listing.specs.OutputLines.{first_lines, Listable};
+ghost use Rattle.listing.specs.OutputLines.{Lists};
 
-use crate::lines::put_line;
+use crate::lines::{Fields, put_line};
+use rules::{Ball, Matryoshka};
 
-// The lines of the first `count` values, 1, 2 or 3 fields on each; what a list holds that no line shows does not count.
-fn put_lines(
-    fields: usize,
-    middles: &[i64],
-    strays: &[u64],
-    margins: &[u64],
+// The lines of the values that `value` gives for the indices below `count`.
+fn put_lines<T: Fields, F: Fn(usize) -> T>(
     count: usize,
+    value: F,
     out: &mut [u8],
     at: usize,
 ) -> usize
-    requires { Listable count at middles.now strays.now margins.now out.old }
-    ensures { Wrote (first_lines fields count middles.now strays.now margins.now)
-        at out.old out.new result }
+    requires few { count ≤ 16 }
+    requires room { at + 1600 ≤ length out.old }
+    requires callable { (i : ℕ) → i < count → F.pre value i }
+    ensures { Lists T.fields (F.post value) count at out.old out.new result }
 {
     let mut next = at;
-    let mut i = 0;
-    while i < count {
-        let middle = middles[i];
-        next = put_line(fields, i, middle, strays[i], margins[i], out, next);
-        i = i + 1;
+    for i in 0..count {
+        next = put_line(i, value(i), out, next);
     }
     next
 }
@@ -36,8 +32,7 @@ pub fn put_plain(values: &[i64], count: usize, out: &mut [u8], at: usize) -> usi
     ensures { Wrote (listed plain_fields 0 (take count values.now))
         at out.old out.new result }
 {
-    let none: [u64; 16] = [0; 16];
-    put_lines(1, values, &none, &none, count, out, at)
+    put_lines(count, |i| values[i], out, at)
 }
 
 pub fn put_balls(centres: &[i64], margins: &[u64], count: usize, out: &mut [u8], at: usize) -> usize
@@ -46,8 +41,15 @@ pub fn put_balls(centres: &[i64], margins: &[u64], count: usize, out: &mut [u8],
     ensures { Wrote (listed ball_fields 0 (balls (take count centres.now) (take count margins.now)))
         at out.old out.new result }
 {
-    let none: [u64; 16] = [0; 16];
-    put_lines(2, centres, &none, margins, count, out, at)
+    put_lines(
+        count,
+        |i| Ball {
+            centre: centres[i],
+            margin: margins[i],
+        },
+        out,
+        at,
+    )
 }
 
 pub fn put_matryoshki(
@@ -64,5 +66,14 @@ pub fn put_matryoshki(
         (take count strays.now) (take count margins.now)))
         at out.old out.new result }
 {
-    put_lines(3, middles, strays, margins, count, out, at)
+    put_lines(
+        count,
+        |i| Matryoshka {
+            middle: middles[i],
+            stray: strays[i],
+            margin: margins[i],
+        },
+        out,
+        at,
+    )
 }

@@ -1,11 +1,15 @@
 -- A list whose front is written element by element: none yet, one more, all. Assumes nothing.
 use mathlib.Core.Path.{◌≡◌, refl, sym, ◌∙◌, ap}
-use mathlib.Core.List.{List, [], ◌∷◌, ◌++◌}
+use mathlib.Core.List.{List, [], ◌∷◌, ◌++◌, map}
 use Prim.Native.Nat.{ℕ, zero, ◌+◌, ◌≤◌, ◌<◌}
 use native.Mathlib.Numerals.{add-one}
 use native.Mathlib.Omega.{arith}
-use lib.ListN.{length, get_or, take, set, length-set}
+use lib.IntN.{ℤ, pos, nat_abs}
+use lib.ListN.{length, get_or, take, set, length-set, length-map, get_or-map}
 use lib.Seq.{take_all, take-suc, length-take-le}
+use mir.Syntax.{w64}
+use mir.Val.{SFits, to_z, of_z}
+use mir.ValLaws.{to_z-of_z}
 use Rattle.lists.specs.Over.{over}
 use Rattle.lists.proofs.Over.{over_more}
 
@@ -33,3 +37,17 @@ module _ {A : Type 0} (new old : List A) where
 
   pub filled_all : {now : List A} {k : ℕ} → length new ≤ k → Filled new old now k → now ≡ over new old
   filled_all {k = k} l w = w.is ∙ ap (λ a. over a old) (take_all k new l)
+
+-- the sizes of numbers, one by one
+pub sizes_none : (xs : List ℤ) (old : List ℕ) → Filled (map nat_abs xs) old old 0
+sizes_none xs old = filled_none (map nat_abs xs) old
+
+pub sizes_one : (xs : List ℤ) {old now : List ℕ} {i n : ℕ} → Filled (map nat_abs xs) old now i → i < length xs → length xs ≤ length old
+    → SFits w64 (get_or xs i (pos 0)) → n ≡ nat_abs (to_z w64 (of_z w64 (get_or xs i (pos 0)))) → Filled (map nat_abs xs) old (set now i n) (i + 1)
+sizes_one xs {old} {i = i} f b r s e =
+    let m = length-map xs nat_abs in
+    filled_one (map nat_abs xs) old 0 (omega (arith, m, r)) (omega (arith, m, b))
+    (e ∙ ap nat_abs (to_z-of_z w64 (get_or xs i (pos 0)) s) ∙ sym (get_or-map nat_abs xs i (pos 0))) f
+
+pub sizes_all : (xs : List ℤ) {old now : List ℕ} {i : ℕ} → Filled (map nat_abs xs) old now i → length xs ≤ i → now ≡ over (map nat_abs xs) old
+sizes_all xs {old} f l = filled_all (map nat_abs xs) old (omega (arith, length-map xs nat_abs, l)) f

@@ -17,6 +17,13 @@ module _ {A B C : Type 0} (f : A → B → C) where
   joined_at (x ∷ xs) (y ∷ ys) zero a b p q = refl
   joined_at (x ∷ xs) (y ∷ ys) (suc i) a b p q = joined_at xs ys i a b (le_of_suc-le-suc p) (le_of_suc-le-suc q)
 
+  pub joined_inside : (xs : List A) (ys : List B) (i : ℕ) → i < length xs → i < length ys → i < length (joined f xs ys)
+  joined_inside [] ys i p q = absurd (not-suc-le-zero p)
+  joined_inside (x ∷ xs) [] i p q = absurd (not-suc-le-zero q)
+  joined_inside (x ∷ xs) (y ∷ ys) zero p q = omega arith
+  joined_inside (x ∷ xs) (y ∷ ys) (suc i) p q =
+      let r = joined_inside xs ys i (le_of_suc-le-suc p) (le_of_suc-le-suc q) in omega (arith, r)
+
   pub joined_long : (xs : List A) (ys : List B) → length xs ≡ length ys → length (joined f xs ys) ≡ length xs
   joined_long [] ys e = refl
   joined_long (x ∷ xs) [] e = absurd (no_suc (sym e))

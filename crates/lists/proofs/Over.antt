@@ -2,7 +2,7 @@
 use mathlib.Core.Path.{◌≡◌, refl, sym, ◌∙◌, ap, ap₂}
 use mathlib.Core.Bool.{Bool, true, false, cond}
 use mathlib.Core.List.{List, [], ◌∷◌, ◌++◌, append_assoc}
-use Prim.Native.Nat.{ℕ, suc, ◌+◌, ◌-◌, ◌≤◌, ◌<◌}
+use Prim.Native.Nat.{ℕ, suc, min, ◌+◌, ◌-◌, ◌≤◌, ◌<◌}
 use native.Mathlib.Numerals.{add-one}
 use native.Mathlib.Omega.{arith}
 use borrow.Author.Tests.{leb-true, leb-false, le-leb, lt-leb}
@@ -66,3 +66,16 @@ least_left {a} {b} l = ap (λ (t : Bool). cond t a b) (sym (le-leb a b l))
 pub least_right : {a b : ℕ} → b < a → b ≡ least a b
 unfolding least
 least_right {a} {b} l = ap (λ (t : Bool). cond t a b) (sym (lt-leb a b l))
+
+pub least_min : (a b : ℕ) → min a b ≡ least a b
+least_min a b = by_test (leb a b) refl
+  where
+    by_test : (t : Bool) → leb a b ≡ t → min a b ≡ least a b
+    by_test true u =
+        let l = leb-true a b u in
+        let e : min a b ≡ a = omega (arith, l) in
+        e ∙ least_left l
+    by_test false u =
+        let l = leb-false a b u in
+        let e : min a b ≡ b = omega (arith, l) in
+        e ∙ least_right l

@@ -11,12 +11,7 @@ pub fn copy_numbers(from: &[i64], to: &mut [i64])
     requires { length from.now ≤ length to.old }
     ensures { to.new ≡ over from.now to.old }
 {
-    let mut i = 0;
-    while i < from.len() {
-        let v = from[i];
-        to[i] = v;
-        i = i + 1;
-    }
+    to[..from.len()].copy_from_slice(from);
 }
 
 // The size of each of `from`, to the front of `to`.
@@ -24,11 +19,8 @@ pub fn copy_sizes(from: &[i64], to: &mut [u64])
     requires { length from.now ≤ length to.old }
     ensures { to.new ≡ over (map nat_abs from.now) to.old }
 {
-    let mut i = 0;
-    while i < from.len() {
-        let v = from[i];
-        to[i] = magnitude(v);
-        i = i + 1;
+    for (i, v) in from.iter().enumerate() {
+        to[i] = magnitude(*v);
     }
 }
 
@@ -36,7 +28,7 @@ pub fn copy_sizes(from: &[i64], to: &mut [u64])
 pub fn least_of(a: usize, b: usize) -> usize
     ensures { result ≡ least a b }
 {
-    if a <= b { a } else { b }
+    a.min(b)
 }
 
 pub fn least_of_three(a: usize, b: usize, c: usize) -> usize

@@ -16,15 +16,15 @@ fn read_full<R: Read>(from: &mut R, input: &mut [u8]) -> io::Result<usize>
         if more == 0 {
             break;
         }
-        n = n + more;
+        n += more;
     }
     Ok(n)
 }
 
 // 16 KiB, and a byte that shows that there is more.
 fn main(rt: HostRuntime) -> io::Result<()> {
-    let mut input: [u8; 16385] = [0; 16385];
-    let mut out: [u8; 2048] = [0; 2048];
+    let mut input = [0; 16385];
+    let mut out = [0; 2048];
     let n = read_full(&mut rt.stdin(), &mut input)?;
     let m = answer(&input[..n], &mut out);
     io::writer(&rt).write_all(&out[..m])

@@ -1,2 +1,2 @@
--- The laws of the walk on matryoshki.
-pub mod Turns
+-- The laws of matryoshki in lent lists.
+pub mod Lent

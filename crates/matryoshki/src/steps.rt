@@ -8,23 +8,23 @@ ghost use Rattle.rules.specs.Steps.{AtEveryScale, within_reach, matryoshka_answe
 ghost use Rattle.rules.specs.Matryoshki.{is_whole, rounding_doubt, matryoshka_rule};
 
 use refusals::Refusal;
-use rules::{Matryoshka, MatryoshkaStep};
+use rules::Matryoshka;
 
 // m, or refusal 11 where its reach is over the limit.
-fn keep(m: Matryoshka) -> MatryoshkaStep
+fn keep(m: Matryoshka) -> Result<Matryoshka, Refusal>
     requires { m.stray + m.margin < 2 ^ 63 }
     ensures { matryoshka_answer result ≡ within_reach matryoshka_reach m }
 {
     let stray = m.stray;
     let margin = m.margin;
     if rounding::sum_within(whole::magnitude(m.middle), stray, margin) {
-        MatryoshkaStep::Value(m)
+        Ok(m)
     } else {
-        MatryoshkaStep::Refused(Refusal::OutOfReach)
+        Err(Refusal::OutOfReach)
     }
 }
 
-pub fn constant(c: i64) -> MatryoshkaStep
+pub fn constant(c: i64) -> Result<Matryoshka, Refusal>
     ensures { AtEveryScale matryoshka_rule (Operation.constant c) (matryoshka_answer result) }
 {
     keep(Matryoshka {
@@ -34,7 +34,7 @@ pub fn constant(c: i64) -> MatryoshkaStep
     })
 }
 
-pub fn negate(x: Matryoshka) -> MatryoshkaStep
+pub fn negate(x: Matryoshka) -> Result<Matryoshka, Refusal>
     requires { IsMatryoshka x }
     ensures { AtEveryScale matryoshka_rule (Operation.negate x) (matryoshka_answer result) }
 {
@@ -45,7 +45,7 @@ pub fn negate(x: Matryoshka) -> MatryoshkaStep
     })
 }
 
-pub fn add(x: Matryoshka, y: Matryoshka) -> MatryoshkaStep
+pub fn add(x: Matryoshka, y: Matryoshka) -> Result<Matryoshka, Refusal>
     requires { IsMatryoshka x × IsMatryoshka y }
     ensures { AtEveryScale matryoshka_rule (Operation.add x y) (matryoshka_answer result) }
 {
@@ -56,7 +56,7 @@ pub fn add(x: Matryoshka, y: Matryoshka) -> MatryoshkaStep
     })
 }
 
-pub fn subtract(x: Matryoshka, y: Matryoshka) -> MatryoshkaStep
+pub fn subtract(x: Matryoshka, y: Matryoshka) -> Result<Matryoshka, Refusal>
     requires { IsMatryoshka x × IsMatryoshka y }
     ensures { AtEveryScale matryoshka_rule (Operation.subtract x y) (matryoshka_answer result) }
 {
@@ -90,7 +90,7 @@ fn rounding_doubt(scale: u32, x: Matryoshka, y: Matryoshka) -> u64
     rounding::half(scale)
 }
 
-pub fn multiply(scale: u32, x: Matryoshka, y: Matryoshka) -> MatryoshkaStep
+pub fn multiply(scale: u32, x: Matryoshka, y: Matryoshka) -> Result<Matryoshka, Refusal>
     requires { (scale ≤ top_scale) × IsMatryoshka x × IsMatryoshka y }
     ensures { matryoshka_answer result ≡ matryoshka_rule scale (Operation.multiply x y) }
 {
@@ -108,7 +108,7 @@ pub fn multiply(scale: u32, x: Matryoshka, y: Matryoshka) -> MatryoshkaStep
     })
 }
 
-pub fn coefficient(c: i64, r: u64) -> MatryoshkaStep
+pub fn coefficient(c: i64, r: u64) -> Result<Matryoshka, Refusal>
     requires { r < 2 ^ 63 }
     ensures { AtEveryScale matryoshka_rule (Operation.coefficient c r) (matryoshka_answer result) }
 {
@@ -122,7 +122,7 @@ pub fn coefficient(c: i64, r: u64) -> MatryoshkaStep
 }
 
 // Or refusal 17 where a ball that is covered may hold 0.
-pub fn reciprocal(scale: u32, x: Matryoshka) -> MatryoshkaStep
+pub fn reciprocal(scale: u32, x: Matryoshka) -> Result<Matryoshka, Refusal>
     requires { (scale ≤ top_reciprocal_scale) × IsMatryoshka x }
     ensures { matryoshka_answer result ≡ matryoshka_rule scale (Operation.reciprocal x) }
 {
@@ -138,5 +138,5 @@ pub fn reciprocal(scale: u32, x: Matryoshka) -> MatryoshkaStep
             margin: margin + 1,
         });
     }
-    MatryoshkaStep::Refused(Refusal::MayBeZero)
+    Err(Refusal::MayBeZero)
 }

@@ -5,8 +5,8 @@ ghost use Rattle.std.specs.Prelude.{◌≡◌, ◌+◌, ◌/◌, ◌^◌, ◌≤
 ghost use Rattle.packed.specs.ReaderAnswers.{Instructed, ReadFrom, ZeroCode, Named, CutShort};
 
 use bits::Cursor;
-use packed::InstructionRead;
-use packed::loaded::{Loaded, load};
+use packed::Decoded;
+use packed::loaded::{CODE, CONSTANT, Loaded, OPERAND, load};
 use reading::{read_beyond, read_constant, read_operands};
 use refusals::Refusal;
 
@@ -23,51 +23,49 @@ fn cut_short(s: &[u8], l: Loaded, below: usize) -> bool
     requires { Named s.now l }
     ensures { CutShort s.now below l result }
 {
-    let code = l.code();
-    let first = code.rest.operand();
+    let code = l.take::<CODE>();
+    let first = code.rest.take::<OPERAND>();
     if first.rest.ended(s) {
         return true;
     }
-    if code.field == 1 {
+    if code.field == 1 || below as u64 <= first.field {
         return false;
     }
-    if below as u64 <= first.field {
-        return false;
-    }
-    let second = first.rest.operand();
+    let second = first.rest.take::<OPERAND>();
     second.rest.ended(s)
 }
 
 // A constant that may have ended.
-fn last_constant(s: &[u8], l: Loaded) -> InstructionRead
+#[tactic(auto, using(packed::proofs::Inside::cut_constant))]
+fn last_constant(s: &[u8], l: Loaded) -> Result<Decoded, Refusal>
     requires { ZeroCode s.now l }
     ensures { ReadFrom s.now l result }
 {
-    let code = l.code();
-    let constant = code.rest.constant();
+    let code = l.take::<CODE>();
+    let constant = code.rest.take::<CONSTANT>();
     if constant.rest.ended(s) {
-        return InstructionRead::Refused(Refusal::Ended);
+        return Err(Refusal::Ended);
     }
     read_constant(s, l)
 }
 
-pub fn read_instruction(s: &[u8], c: Cursor, scale: u32, below: usize) -> InstructionRead
+pub fn read_instruction(s: &[u8], c: Cursor, scale: u32, below: usize) -> Result<Decoded, Refusal>
     requires { c.at ≤ 2 ^ 30 }
     ensures { Instructed s.now scale below c result }
 {
     let l = load(s, c);
-    let code = l.code();
+    let code = l.take::<CODE>();
     if code.rest.ended(s) {
-        return InstructionRead::Refused(Refusal::Ended);
+        return Err(Refusal::Ended);
     }
-    if code.field == 0 {
-        return last_constant(s, l);
+    match code.field {
+        0 => last_constant(s, l),
+        1..=4 => {
+            if cut_short(s, l, below) {
+                return Err(Refusal::Ended);
+            }
+            read_operands(s, l, below)
+        }
+        _ => read_beyond(s, l, scale, below),
     }
-    if 5 <= code.field {
-        return read_beyond(s, l, scale, below);
-    }
-    if cut_short(s, l, below) {
-        return InstructionRead::Refused(Refusal::Ended);
-    }
-    read_operands(s, l, below)
 }

@@ -2,3 +2,4 @@
 pub mod Reading
 pub mod Rounding
 pub mod OneReading
+pub mod Places

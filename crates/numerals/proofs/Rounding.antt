@@ -1,43 +1,24 @@
 -- Numbers in units. Assumes nothing.
-use mathlib.Core.Path.{◌≡◌, refl, ◌∙◌, ap, ap₂}
+use mathlib.Core.Path.{◌≡◌, ap₂}
 use Prim.Native.Nat.{ℕ, suc, ◌+◌, ◌*◌, ◌/◌, ◌%◌, ◌^◌, ◌≤◌, ◌<◌}
-use native.Mathlib.Nat.{div-add-mod', mod-lt, one-le-pow, zero-lt-suc, pow-le-pow_right, pow-suc, lt_of_lt_of_le}
+use native.Mathlib.Nat.{div-add-mod', mod-lt, one-le-pow, zero-lt-suc, pow-le-pow_right, lt_of_lt_of_le}
 use native.Mathlib.Nat.{mul-le-mul_left, mul-le-mul_right}
-use native.Mathlib.Numerals.{add-one}
 use native.Mathlib.Omega.{arith}
 use lib.Dec.{eqb}
 use lib.Pow.{pow_mono, shl_lt, shl_exact}
-use mir.Syntax.{w64}
-use mir.Val.{Fits}
 use Rattle.rules.specs.Numbers.{Q, top_scale}
 use Rattle.numerals.specs.Units.{units, is_exact}
 
 -- ---- powers of ten
 
-ten_pos : (e : ℕ) → 1 ≤ 10 ^ e
+pub ten_pos : (e : ℕ) → 1 ≤ 10 ^ e
 ten_pos e = one-le-pow e 10 (zero-lt-suc 9)
 
-ten_most : {e n : ℕ} → e ≤ n → 10 ^ e ≤ 10 ^ n
+pub ten_some : (e : ℕ) {ten : ℕ} → ten ≡ 10 ^ e → 1 ≤ ten
+ten_some e k = omega (arith, k, ten_pos e)
+
+pub ten_most : {e n : ℕ} → e ≤ n → 10 ^ e ≤ 10 ^ n
 ten_most l = pow-le-pow_right (zero-lt-suc 9) l
-
--- k of e factors
-pub record Tens (e k power : ℕ) : Type 0 where
-  pub some : k ≤ e
-  pub is : power ≡ 10 ^ k
-  pub small : power ≤ 10 ^ 9
-
-pub tens_none : {e : ℕ} → Tens e 0 1
-tens_none = record { some = omega arith; is = refl; small = omega arith }
-
-module _ {e k power : ℕ} (t : Tens e k power) where
-  pub tens_all : e ≤ k → power ≡ 10 ^ e
-  tens_all l = let z : k ≡ e = omega (arith, t.some) in t.is ∙ ap (λ n. 10 ^ n) z
-
-  pub tens_one : e ≤ 9 → k < e → Tens e (k + 1) (10 * power)
-  tens_one l m =
-      let is : 10 * power ≡ 10 ^ (k + 1) = rw (add-one k, pow-suc 10 k) (omega (arith, t.is)) in
-      let most : 10 ^ (k + 1) ≤ 10 ^ 9 = ten_most {n = 9} (omega arith) in
-      record { some = omega arith; is = is; small = omega arith }
 
 -- ---- units
 
@@ -100,10 +81,6 @@ module _ {F v : ℕ} (f : F ≤ top_scale) (k : v < 10 ^ 9) where
 
   product_small : v * Q F < 2 ^ 60
   product_small = lt_of_lt_of_le (shl_lt 30 F (omega arith)) (pow_mono {j = 60} (omega arith))
-
--- a quotient times no more than its divisor
-pub back_fits : (x y z : ℕ) → x < 2 ^ 64 → z ≤ y → Fits w64 (x / y * z)
-back_fits x y z k l = record { fits = omega (arith, div-add-mod' x y, mul-le-mul_left (x / y) l) }
 
 module _ {F v e ten : ℕ} (g : (F ≤ top_scale) × (v < 10 ^ 9) × (e ≤ 8)) (t : ten ≡ 10 ^ e) where
   -- what the count is made of

@@ -1,10 +1,12 @@
 -- Request h: "A number has 1 to 9 digits in all, with an optional point between digits." As long a number as stands in
 -- front of bytes.
-use Rattle.std.specs.Prelude.{◌≡◌, Bool, true, false, cond, ◌&&◌, List, [], ◌∷◌, ℕ, zero, suc, ◌+◌, ◌-◌, ◌*◌, ◌^◌, ◌≤◌, ◌<◌, leb, ltb, eqb, length, drop}
-use Rattle.numerals.specs.declared.Digit.{Digit}
-use Rattle.numerals.specs.declared.Digit.TheVariants as digit
+use Rattle.std.specs.Prelude.{◌≡◌, Bool, true, false, cond, ◌&&◌, List, [], ◌∷◌, ℕ, zero, suc, ◌+◌, ◌-◌, ◌*◌, ◌^◌, ◌≤◌, ◌<◌, leb, ltb, eqb, length, drop, get_or}
+use Rattle.std.specs.declared.option.Option.{Option}
+use Rattle.std.specs.declared.option.Option.TheVariants.{None, Some}
+use Rattle.std.specs.declared.result.Result.{Result}
+use Rattle.std.specs.declared.result.Result.TheVariants.{Ok, Err}
 use Rattle.numerals.specs.declared.Numeral.{Numeral}
-use Rattle.numerals.specs.declared.Numeral.TheVariants.{Got, NoDigit}
+use Rattle.numerals.specs.declared.Wrong.{Wrong}
 
 abbrev pub is_digit : ℕ → Bool
 is_digit b = leb 48 b && ltb b 58
@@ -43,21 +45,26 @@ reading (b ∷ s) = cond (is_digit b) (whole_on 8 (b - 48) s) (no_digit (b ∷ s
 
 -- ---- what the code's answers stand for
 
-abbrev pub TellsDigit : ℕ → Digit → Type 0
-TellsDigit b (digit.Is d) = (is_digit b ≡ true) × (d ≡ b - 48) × (d ≤ 9)
-TellsDigit b digit.None = is_digit b ≡ false
+abbrev pub TellsDigit : ℕ → Option ℕ → Type 0
+TellsDigit b (Some d) = (is_digit b ≡ true) × (d ≡ b - 48) × (d ≤ 9)
+TellsDigit b None = is_digit b ≡ false
 
-abbrev pub numeral_reading : List ℕ → Numeral → Reading
-numeral_reading s (Got v e n) = number v e (drop n s)
-numeral_reading s (NoDigit n) = no_digit (drop n s)
+-- the digit at a place, or that none stands there
+abbrev pub MustBeDigit : List ℕ → ℕ → Result ℕ Wrong → Type 0
+MustBeDigit s at (Ok d) = (at < length s) × TellsDigit (get_or s at 0) (Some d)
+MustBeDigit s at (Err e) = (e.place ≡ at) × (at < length s → is_digit (get_or s at 0) ≡ false)
+
+abbrev pub numeral_reading : List ℕ → Result Numeral Wrong → Reading
+numeral_reading s (Ok n) = number n.number.count n.number.places (drop n.end s)
+numeral_reading s (Err e) = no_digit (drop e.place s)
 
 -- its numbers are small, and it ends within the bytes, behind a place or right at one where no digit stands
-abbrev pub Within : List ℕ → ℕ → Numeral → Type 0
-Within s from (Got v e n) = (v < 10 ^ 9) × (e ≤ 8) × (from ≤ n) × (n ≤ length s)
-Within s from (NoDigit n) = (from ≤ n + 1) × (n ≤ length s)
+abbrev pub Within : List ℕ → ℕ → Result Numeral Wrong → Type 0
+Within s from (Ok n) = (n.number.count < 10 ^ 9) × (n.number.places ≤ 8) × (from ≤ n.end) × (n.end ≤ length s)
+Within s from (Err e) = (from ≤ e.place + 1) × (e.place ≤ length s)
 
 -- the answer to what was to be read
-pub record Reads (s : List ℕ) (from : ℕ) (what : Reading) (r : Numeral) : Type 0 where
+pub record Reads (s : List ℕ) (from : ℕ) (what : Reading) (r : Result Numeral Wrong) : Type 0 where
   pub is : numeral_reading s r ≡ what
   pub within : Within s from r
 

@@ -2,3 +2,4 @@
 pub mod Digits
 pub mod Units
 pub mod Decimals
+pub mod Places

@@ -1,129 +1,136 @@
 // Numbers as they are written: 1 to 9 digits in all, with an optional point between digits; and their units.
 #![tactic(auto)]
 
-ghost use Rattle.std.specs.Prelude.{◌≡◌, ◌+◌, ◌^◌, ◌≤◌, ◌<◌, length, drop};
+ghost use Rattle.std.specs.Prelude.{◌≡◌, ◌+◌, ◌-◌, ◌^◌, ◌≤◌, ◌<◌, length, drop};
 ghost use Rattle.rules.specs.Numbers.{top_scale};
-ghost use Rattle.numerals.specs.Digits.{TellsDigit, fraction_on, point_on, whole_on, reading};
+ghost use Rattle.numerals.specs.Digits.{TellsDigit, MustBeDigit, fraction_on, point_on, whole_on, reading};
 ghost use Rattle.numerals.specs.Digits.{Reads, SoFar};
+ghost use Rattle.numerals.specs.Places.{placed};
 ghost use Rattle.numerals.specs.Units.{units, is_exact};
 
-// The digits as one number, how many of them stand after the point, and the place behind them; or the place at which a
-// digit must stand and none does.
+use refusals::{Refusal, Refused};
+
+// A decimal number as it is written: how many of 10^-places it is.
 #[derive(Clone, Copy)]
-pub enum Numeral {
-    Got(u64, u32, usize),
-    NoDigit(usize),
+pub struct Decimal<T> {
+    pub count: T,
+    pub places: u32,
 }
 
+// The number in front of bytes, and the place behind it.
 #[derive(Clone, Copy)]
-enum Digit {
-    Is(u64),
-    None,
+pub struct Numeral {
+    pub number: Decimal<u64>,
+    pub end: usize,
 }
 
-fn digit_of(b: u8) -> Digit
+// The place at which a text goes wrong: to `read`, where a digit must stand and none does.
+#[derive(Clone, Copy)]
+pub struct Wrong {
+    pub place: usize,
+}
+
+// What was read, or else a refusal at the place where the text goes wrong.
+pub fn placed<T>(read: Result<T, Wrong>, why: Refusal) -> Result<T, Refused>
+    ensures { result ≡ placed why read }
+{
+    read.map_err(|wrong| Refused {
+        why,
+        place: wrong.place,
+    })
+}
+
+fn digit_of(b: u8) -> Option<u64>
     ensures { TellsDigit b result }
 {
-    if b < 48 {
-        return Digit::None;
+    match b {
+        b'0'..=b'9' => Some((b - b'0') as u64),
+        _ => None,
     }
-    if b < 58 {
-        return Digit::Is((b - 48) as u64);
-    }
-    Digit::None
 }
 
-// Digits behind a point, one of which was read.
-fn fraction(text: &[u8], from: usize, left: u32, places: u32, value: u64) -> Numeral
-    requires { SoFar text.now from left places value }
-    ensures { Reads text.now from (fraction_on left places value (drop from text.now)) result }
+// The digit that must stand at a place.
+fn digit_at(text: &[u8], place: usize) -> Result<u64, Wrong>
+    ensures { MustBeDigit text.now place result }
 {
-    let mut at = from;
-    let mut l = left;
-    let mut e = places;
-    let mut v = value;
-    while at < text.len() {
-        if l == 0 {
-            break;
-        }
-        match digit_of(text[at]) {
-            Digit::None => break,
-            Digit::Is(d) => {
-                v = 10 * v + d;
-                e = e + 1;
-                l = l - 1;
-                at = at + 1;
-            }
-        }
-    }
-    Numeral::Got(v, e, at)
+    text.get(place)
+        .and_then(|b| digit_of(*b))
+        .ok_or(Wrong { place })
 }
 
-// Digits and a point, none of which stands yet; one digit was read.
-fn whole(text: &[u8], from: usize, left: u32, value: u64) -> Numeral
-    requires { SoFar text.now from left 0 value }
-    ensures { Reads text.now from (whole_on left value (drop from text.now)) result }
+// Digits behind a point, one of which was read, and so many more may follow.
+fn fraction(text: &[u8], from: usize, left: usize, first: u64) -> Numeral
+    requires { SoFar text.now from left 1 first }
+    ensures { Reads text.now from (fraction_on left 1 first (drop from text.now)) (Ok result) }
 {
-    let mut at = from;
-    let mut l = left;
-    let mut v = value;
-    while at < text.len() {
-        if l == 0 {
-            break;
-        }
-        let b = text[at];
-        if b == b'.' {
-            return pointed(text, at + 1, l - 1, v);
-        }
-        match digit_of(b) {
-            Digit::None => break,
-            Digit::Is(d) => {
-                v = 10 * v + d;
-                l = l - 1;
-                at = at + 1;
-            }
-        }
+    let mut count = first;
+    let mut places = 1;
+    let end = text.len().min(from + left);
+    for at in from..end {
+        let Some(d) = digit_of(text[at]) else {
+            return Numeral {
+                number: Decimal { count, places },
+                end: at,
+            };
+        };
+        count = 10 * count + d;
+        places += 1;
     }
-    Numeral::Got(v, 0, at)
+    Numeral {
+        number: Decimal { count, places },
+        end,
+    }
+}
+
+// Digits and a point, which does not stand yet; one digit was read, and so many more may follow.
+fn whole(text: &[u8], from: usize, left: usize, first: u64) -> Result<Numeral, Wrong>
+    requires { SoFar text.now from left 0 first }
+    ensures { Reads text.now from (whole_on left first (drop from text.now)) result }
+{
+    let mut count = first;
+    let until = from + left;
+    let end = text.len().min(until);
+    for at in from..end {
+        if text[at] == b'.' {
+            return pointed(text, at + 1, until - at - 1, count);
+        }
+        let Some(d) = digit_of(text[at]) else {
+            return Ok(Numeral {
+                number: Decimal { count, places: 0 },
+                end: at,
+            });
+        };
+        count = 10 * count + d;
+    }
+    Ok(Numeral {
+        number: Decimal { count, places: 0 },
+        end,
+    })
 }
 
 // Right behind a point: a digit must stand, and so many more may follow it.
-fn pointed(text: &[u8], from: usize, left: u32, value: u64) -> Numeral
-    requires { SoFar text.now from (left + 1) 0 value }
-    ensures { Reads text.now from (point_on left value (drop from text.now)) result }
+fn pointed(text: &[u8], from: usize, left: usize, count: u64) -> Result<Numeral, Wrong>
+    requires { SoFar text.now from (left + 1) 0 count }
+    ensures { Reads text.now from (point_on left count (drop from text.now)) result }
 {
-    if from < text.len() {
-        if let Digit::Is(d) = digit_of(text[from]) {
-            return fraction(text, from + 1, left, 1, 10 * value + d);
-        }
-    }
-    Numeral::NoDigit(from)
+    let d = digit_at(text, from)?;
+    Ok(fraction(text, from + 1, left, 10 * count + d))
 }
 
 // The number that stands from a place on, as long as it goes.
-pub fn read(text: &[u8], at: usize) -> Numeral
+pub fn read(text: &[u8], at: usize) -> Result<Numeral, Wrong>
     requires { at ≤ length text.now }
     ensures { Reads text.now (at + 1) (reading (drop at text.now)) result }
 {
-    if at < text.len() {
-        if let Digit::Is(d) = digit_of(text[at]) {
-            return whole(text, at + 1, 8, d);
-        }
-    }
-    Numeral::NoDigit(at)
+    let d = digit_at(text, at)?;
+    whole(text, at + 1, 8, d)
 }
 
 pub fn power_of_ten(e: u32) -> u64
     requires { e ≤ 9 }
     ensures { result ≡ 10 ^ e }
 {
-    let mut power = 1;
-    let mut k = 0;
-    while k < e {
-        power = 10 * power;
-        k = k + 1;
-    }
-    power
+    10u64.pow(e)
 }
 
 #[derive(Clone, Copy)]
@@ -133,15 +140,16 @@ pub struct Units {
 }
 
 // A number in units: rounded with ties up, and whether nothing was lost.
-pub fn units_of(scale: u32, value: u64, places: u32) -> Units
-    requires { (scale ≤ top_scale) × (value < 10 ^ 9) × (places ≤ 8) }
-    ensures { (result.count ≡ units scale value places) × (result.exact ≡ is_exact scale value places) × (result.count < 2 ^ 60) }
+pub fn units_of(scale: u32, number: Decimal<u64>) -> Units
+    requires { (scale ≤ top_scale) × (number.count < 10 ^ 9) × (number.places ≤ 8) }
+    ensures { (result.count ≡ units scale number.count number.places)
+        × (result.exact ≡ is_exact scale number.count number.places) × (result.count < 2 ^ 60) }
 {
-    let ten = power_of_ten(places);
-    let whole = value << scale;
+    let ten = power_of_ten(number.places);
+    let whole = number.count << scale;
     let count = (2 * whole + ten) / (2 * ten);
     Units {
-        count: count,
+        count,
         exact: count * ten == whole,
     }
 }

@@ -6,11 +6,11 @@ use lib.IntN.{ℤ}
 use mir.Syntax.{w64}
 use mir.Val.{SFits}
 use mir.ValLaws.{to_z-of_z}
+use Rattle.std.specs.declared.result.Result.TheVariants.{Ok, Err}
 use Rattle.whole.proofs.Machine.{back}
-use Rattle.refusals.specs.declared.Reply.{Reply}
+use Rattle.refusals.specs.Said.{Reply}
 use Rattle.refusals.specs.Said.{reply_said}
-use Rattle.checking.specs.declared.Checked.{Checked}
-use Rattle.checking.specs.declared.Checked.TheVariants as checked
+use Rattle.checking.specs.CheckAnswers.{Checked}
 use Rattle.checking.specs.CheckAnswers.{check_answer}
 use Rattle.packing.specs.Raw.{RawFormula, Parts, handed}
 use Rattle.packing.specs.PackAnswers.{Packs, Unpacks}
@@ -33,8 +33,8 @@ told_packed F m p {old} {new} {q} fF fm k e =
 
 module _ {s : List ℕ} {old new : Parts} where
   pub unpacked_limits : (c : Checked) → Unpacks s old new (check_answer c) → CheckedInLimits c
-  unpacked_limits (checked.Formula h) u = read_limits u
-  unpacked_limits (checked.Refused r) u = tt
+  unpacked_limits (Ok h) u = read_limits u
+  unpacked_limits (Err r) u = tt
 
   pub told_unpacked : (c : Checked) {r : MarginsFormula} → Unpacks s old new (check_answer c)
       → r ≡ margins_formula (check_answer c) → UnpackDoor s old new r

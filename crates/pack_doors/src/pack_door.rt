@@ -18,6 +18,5 @@ pub fn margins_pack(
         (parts codes.now firsts.now seconds.now outputs.now))
         bytes.old bytes.new result }
 {
-    let r = pack(scale, inputs, codes, firsts, seconds, outputs, bytes);
-    packed_told(r)
+    packed_told(pack(scale, inputs, codes, firsts, seconds, outputs, bytes))
 }

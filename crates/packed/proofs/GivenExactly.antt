@@ -27,7 +27,7 @@ use Rattle.formulas.specs.Formula.{Formula}
 use Rattle.formulas.specs.Kinds.{Kind}
 use Rattle.formulas.specs.Job.{job, said, Lent, lent_job}
 use Rattle.formulas.specs.GivenInRuns.{Terms, GivenInRun, JobNumber}
-use Rattle.formulas.proofs.Lawful.{Lawful}
+use Rattle.formulas.specs.Lawful.{Lawful}
 use Rattle.formulas.proofs.GivenInRuns.{Refusing, refused_given_in_run, job_last}
 use Rattle.packed.specs.Meaning.{whole, formula, checked}
 use Rattle.packed.specs.Given.{Comes, here, later, EndsInside, Wrong, HoldsWrong, Meets, BadlyPadded, Given, one}

@@ -9,6 +9,7 @@ use lib.IntN.{ℤ}
 use lib.ListN.{length}
 use lib.Pow.{shr_lt}
 use borrow.Author.Tests.{eq-eqb, ne_eqb, eqb-true, eqb-false, ltb-true, ltb-false}
+use Rattle.std.specs.declared.result.Result.TheVariants.{Ok, Err}
 use Rattle.whole.proofs.Machine.{back}
 use Rattle.refusals.specs.declared.Refusal.{Refusal}
 use Rattle.refusals.specs.declared.Refusal.TheVariants as refusal
@@ -16,8 +17,7 @@ use Rattle.refusals.specs.Answer.{value, refused, refuse}
 use Rattle.bits.specs.declared.Cursor.{Cursor}
 use Rattle.formulas.specs.declared.Instruction.{Instruction}
 use Rattle.formulas.specs.declared.Instruction.TheVariants.{Constant, Negate}
-use Rattle.packed.specs.declared.InstructionRead.{InstructionRead}
-use Rattle.packed.specs.declared.InstructionRead.TheVariants.{Got, Refused}
+use Rattle.packed.specs.ReaderAnswers.{InstructionRead}
 use Rattle.packed.specs.declared.loaded.Loaded.{Loaded}
 use Rattle.packed.specs.declared.loaded.Taken.{Taken}
 use Rattle.packed.specs.Items.{code, constant, operand, twos_complement, entry, read}
@@ -54,18 +54,18 @@ pub constant_kept : {s : List ℕ} {l : Loaded} {z : ℤ} → Carries s l 57 →
 constant_kept c e = twos_complement_back _ (shr_lt 32 32 (past_code c).small) e
 
 module _ (s : List ℕ) (v : ℕ) (l : Loaded) (carries : Carries s l 57) where
-  pub refuses_at : {F : ℕ} {r : Refusal} → read (instruction F v) (left s l) ≡ refuse r → InstructedFrom s F v l (Refused r)
+  pub refuses_at : {F : ℕ} {r : Refusal} → read (instruction F v) (left s l) ≡ refuse r → InstructedFrom s F v l (Err r)
   refuses_at e = record { is = record { answers = sym e; past = tt } }
 
-  pub refuses : {r : Refusal} → ((F : ℕ) → read (instruction F v) (left s l) ≡ refuse r) → ReadBelow s v l (Refused r)
+  pub refuses : {r : Refusal} → ((F : ℕ) → read (instruction F v) (left s l) ≡ refuse r) → ReadBelow s v l (Err r)
   refuses e = record { is = λ F. refuses_at (e F) }
 
   pub gives_at : {F : ℕ} {i : Instruction} (d : Loaded) {p : Cursor} → p ≡ place_of d → d.at ≡ l.at + wide i
-      → read (instruction F v) (left s l) ≡ value (record { got = i; left = left s d }) → InstructedFrom s F v l (Got i p)
+      → read (instruction F v) (left s l) ≡ value (record { got = i; left = left s d }) → InstructedFrom s F v l (Ok (record { instruction = i; next = p }))
   gives_at d q w e = rw q (record { is = record { answers = sym e; past = w } })
 
   pub gives : {i : Instruction} (d : Loaded) {p : Cursor} → p ≡ place_of d → d.at ≡ l.at + wide i
-      → ((F : ℕ) → read (instruction F v) (left s l) ≡ value (record { got = i; left = left s d })) → ReadBelow s v l (Got i p)
+      → ((F : ℕ) → read (instruction F v) (left s l) ≡ value (record { got = i; left = left s d })) → ReadBelow s v l (Ok (record { instruction = i; next = p }))
   gives d q w e = record { is = λ F. gives_at d q w (e F) }
 
   -- ---- the code
@@ -128,7 +128,7 @@ module _ (s : List ℕ) (v : ℕ) (l : Loaded) (carries : Carries s l 57) where
     some_code : (code_taken l).field ≡ 0 → ⊥
     some_code e = omega (arith, o.named.some, e)
 
-    pub first_refused : v ≤ i.field → ReadBelow s v l (Refused refusal.Operand)
+    pub first_refused : v ≤ i.field → ReadBelow s v l (Err refusal.Operand)
     first_refused m =
         refuses (first_operand there o.named.most some_code (first_wrong o.first_there (rw is_first at m)))
 
@@ -137,7 +137,7 @@ module _ (s : List ℕ) (v : ℕ) (l : Loaded) (carries : Carries s l 57) where
           ≡ value (record { got = (first_taken l).field; left = left s (first_taken l).rest })
       first_is = first_fine o.first_there (rw is_first at named)
 
-      pub negate_ahead : {p : Cursor} → p ≡ place_of i.rest → c.field ≡ 1 → ReadBelow s v l (Got (Negate i.field) p)
+      pub negate_ahead : {p : Cursor} → p ≡ place_of i.rest → c.field ≡ 1 → ReadBelow s v l (Ok (record { instruction = Negate i.field; next = p }))
       unfolding by_code
       negate_ahead q one =
           rw is_first
@@ -159,7 +159,7 @@ module _ (s : List ℕ) (v : ℕ) (l : Loaded) (carries : Carries s l 57) where
             ≡ read (two_operands (combined (code_taken l).field) v) (left s (code_taken l).rest)
         both_coded F = two_coded there o.named.most some_code F other_code
 
-        pub second_refused : v ≤ j.field → ReadBelow s v l (Refused refusal.Operand)
+        pub second_refused : v ≤ j.field → ReadBelow s v l (Err refusal.Operand)
         second_refused m = refuses (λ F. both_coded F ∙ rw (first_is, second_wrong second_there (rw is_second at m)))
 
         second_stands : (second_taken l).rest.at
@@ -167,7 +167,7 @@ module _ (s : List ℕ) (v : ℕ) (l : Loaded) (carries : Carries s l 57) where
         second_stands = omega (arith, combined_wide (code_taken l).field (first_taken l).field (second_taken l).field)
 
         pub two_ahead : {x : Instruction} {p : Cursor} → j.field < v → p ≡ place_of j.rest
-            → x ≡ combined c.field i.field j.field → ReadBelow s v l (Got x p)
+            → x ≡ combined c.field i.field j.field → ReadBelow s v l (Ok (record { instruction = x; next = p }))
         two_ahead {x} m q e =
             let x_is : x ≡ combined (code_taken l).field (first_taken l).field (second_taken l).field =
             rw (tc, is_first, is_second) at e in
@@ -181,7 +181,7 @@ module _ (s : List ℕ) (v : ℕ) (l : Loaded) (carries : Carries s l 57) where
     code_test : b ≡ ltb (8 * length s) (code_taken l).rest.at
     code_test = rw tc at tb
 
-    pub cut_code : b ≡ true → ReadBelow s v l (Refused refusal.Ended)
+    pub cut_code : b ≡ true → ReadBelow s v l (Err refusal.Ended)
     unfolding instruction
     cut_code e = refuses (λ F. rw (missing s l code (lit≤ tt) (ltb-true _ _ (sym code_test ∙ e))))
 
@@ -196,7 +196,7 @@ module _ (s : List ℕ) (v : ℕ) (l : Loaded) (carries : Carries s l 57) where
     some' : (code_taken l).field ≡ 0 → ⊥
     some' e = omega (arith, o.some, e)
 
-    pub cut_first : d ≡ true → ReadBelow s v l (Refused refusal.Ended)
+    pub cut_first : d ≡ true → ReadBelow s v l (Err refusal.Ended)
     cut_first f =
         refuses
         (first_operand o.code_there o.most some'
@@ -293,7 +293,7 @@ module _ {s : List ℕ} {l : Loaded} (o : ZeroCode s l) {c k : Taken} {r : Bool}
   constant_test : r ≡ ltb (8 * length s) (constant_taken l).rest.at
   constant_test = rw (tk, tc) at tr
 
-  pub cut_constant : r ≡ true → ReadFrom s l (Refused refusal.Ended)
+  pub cut_constant : r ≡ true → ReadFrom s l (Err refusal.Ended)
   unfolding by_code
   cut_constant u =
       record {
@@ -318,7 +318,7 @@ module _ {s : List ℕ} {l : Loaded} (o : Zeroth s l) {c k : Taken} (tc : c ≡ 
   asks : (F v : ℕ) → read (instruction F v) (left s l) ≡ read (by_code F v 0) (left s (code_taken l).rest)
   asks F v = coded_as s v l o.carries (record { is = omega (arith, o.constant_there.is) }) F 0 (lit≤ tt) o.is_zero
 
-  pub constant_refused : k.field ≡ 2 ^ 31 → ReadFrom s l (Refused refusal.Constant)
+  pub constant_refused : k.field ≡ 2 ^ 31 → ReadFrom s l (Err refusal.Constant)
   unfolding by_code
   constant_refused m =
       let n : (constant_taken l).field ≡ 2 ^ 31 = rw same_constant at m in
@@ -326,7 +326,7 @@ module _ {s : List ℕ} {l : Loaded} (o : Zeroth s l) {c k : Taken} (tc : c ≡ 
       record { is = λ v. refuses s v l o.carries (λ F. asks F v ∙ rw e) }
 
   pub constant_ahead : {z : ℤ} {p : Cursor} → (k.field ≡ 2 ^ 31 → ⊥) → z ≡ twos_complement k.field
-      → p ≡ place_of k.rest → ReadFrom s l (Got (Constant (back z)) p)
+      → p ≡ place_of k.rest → ReadFrom s l (Ok (record { instruction = Constant (back z); next = p }))
   unfolding by_code
   constant_ahead m e q =
       let n : ((constant_taken l).field ≡ 2 ^ 31 → ⊥) = rw same_constant at m in
@@ -335,7 +335,7 @@ module _ {s : List ℕ} {l : Loaded} (o : Zeroth s l) {c k : Taken} (tc : c ≡ 
       (record { is = λ v. gives s v l o.carries (constant_taken l).rest (rw same_constant at q) (omega arith) (λ F. asks F v ∙ rw f) })
 
 module _ (s : List ℕ) (v : ℕ) (l : Loaded) {r : Bool} where
-  pub was_cut_short : CutShort s v l r → r ≡ true → ReadBelow s v l (Refused refusal.Ended)
+  pub was_cut_short : CutShort s v l r → r ≡ true → ReadBelow s v l (Err refusal.Ended)
   was_cut_short a e = rw e at a
 
   pub was_enough : CutShort s v l r → r ≡ false → Operands s v l

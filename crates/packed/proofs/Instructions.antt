@@ -1,12 +1,19 @@
 -- Constants in two's complement, and what the codes from 2 on ask for. Assumes nothing.
-use mathlib.Core.Path.{◌≡◌, refl, ◌∙◌, ap}
+use mathlib.Core.Path.{◌≡◌, refl, sym, ◌∙◌, ap}
 use mathlib.Core.Bool.{Bool, true, false, cond}
-use mathlib.Core.List.{List}
-use Prim.Native.Nat.{ℕ, zero, suc, ◌^◌, ◌≤◌, ◌<◌}
+use mathlib.Core.List.{List, [], ◌∷◌}
+use Prim.Native.Nat.{ℕ, zero, suc, ◌+◌, ◌-◌, ◌*◌, ◌^◌, ◌≤◌, ◌<◌}
 use native.Mathlib.Omega.{arith}
 use lib.Dec.{ltb, lit≤}
 use borrow.Author.Tests.{lt-ltb, le-ltb, ltb-true, ltb-false}
-use lib.IntN.{ℤ, pos, nat_abs, ◌-ℤ◌}
+use lib.IntN.{ℤ, pos, negsuc, nat_abs, ◌-ℤ◌}
+use lib.Signed.{mag}
+use mir.Syntax.{w32}
+use mir.Val.{sel, to_z, of_z}
+use mir.ValLaws.{to_z-of_z}
+use Rattle.std.proofs.lemmas.Int.{to_z_pos}
+use Rattle.whole.proofs.Floor.{below_zero}
+use Rattle.whole.proofs.Ring.{ring, lit, ◌⊕◌, ◌⊖◌, ◌⊗◌, x₀, x₁}
 use Rattle.whole.proofs.Machine.{back, back_is}
 use Rattle.whole.proofs.Size.{size_sub}
 use Rattle.formulas.specs.declared.Instruction.{Instruction}
@@ -23,6 +30,22 @@ pub twos_complement_high : (c : ℕ) → 2 ^ 31 ≤ c → twos_complement c ≡ 
 unfolding twos_complement
 twos_complement_high c l = ap (λ (t : Bool). cond t (pos c) (pos c -ℤ pos (2 ^ 32))) (le-ltb c (2 ^ 31) l)
 
+-- as the machine reads 32 bits with a sign
+below_none : (n m : ℕ) → n < m → negsuc (m - suc n) ≡ pos n -ℤ pos m
+below_none n m l =
+    ap negsuc (let z : m - suc n ≡ 0 * m + (m - suc n) = omega arith in z)
+    ∙ below_zero 0 (m - suc n) n (let e : n + (m - suc n + 1) ≡ m = omega arith in e)
+    ∙ ring (pos n ∷ pos m ∷ []) (lit (negsuc 0) ⊗ x₁ ⊕ x₀) (x₀ ⊖ x₁) refl
+
+pub twos_complement_read : (n : ℕ) → n < 2 ^ 32 → to_z w32 n ≡ twos_complement n
+twos_complement_read n l = by_top (ltb n (2 ^ 31)) refl
+  where
+    by_top : (t : Bool) → ltb n (2 ^ 31) ≡ t → to_z w32 n ≡ twos_complement n
+    by_top true k = to_z_pos w32 n (ltb-true n (2 ^ 31) k) ∙ sym (twos_complement_low n (ltb-true n (2 ^ 31) k))
+    by_top false k =
+        ap (λ (t : Bool). sel t (pos n) (negsuc (2 ^ 32 - suc n))) k ∙ below_none n (2 ^ 32) l
+        ∙ sym (twos_complement_high n (ltb-false n (2 ^ 31) k))
+
 pub twos_complement_size : (c : ℕ) → c < 2 ^ 32 → nat_abs (twos_complement c) < 2 ^ 63
 twos_complement_size c l = by_sign (ltb c (2 ^ 31)) refl
   where
@@ -34,6 +57,10 @@ twos_complement_size c l = by_sign (ltb c (2 ^ 31)) refl
 -- a constant that was kept in 64 bits
 pub twos_complement_back : (c : ℕ) {z : ℤ} → c < 2 ^ 32 → z ≡ twos_complement c → back z ≡ twos_complement c
 twos_complement_back c {z} l e = ap back e ∙ back_is (twos_complement c) (twos_complement_size c l)
+
+-- 32 bits read with a sign, and kept in 64
+pub twos_complement_signed : {n : ℕ} {x y : ℤ} → n < 2 ^ 32 → x ≡ to_z w32 n → mag x < 2 ^ 31 → y ≡ to_z w32 (of_z w32 x) → back y ≡ twos_complement n
+twos_complement_signed {n} {x} l e m f = twos_complement_back n l (f ∙ to_z-of_z w32 x (record { sfits = m }) ∙ e ∙ twos_complement_read n l)
 
 -- codes 2 to 4
 pub by_code_two : (F v code : ℕ) (bs : List ℕ) → (code ≡ 0 → ⊥) → (code ≡ 1 → ⊥)

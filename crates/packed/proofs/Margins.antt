@@ -10,6 +10,7 @@ use lib.ListN.{length, take, drop}
 use lib.Pow.{shr_lt}
 use lib.Seq.{drop-drop}
 use borrow.Author.Tests.{ltb-true, ltb-false, le-leb, lt-leb}
+use Rattle.std.specs.declared.result.Result.TheVariants.{Ok, Err}
 use Rattle.whole.proofs.Machine.{back}
 use Rattle.refusals.specs.declared.Refusal.TheVariants as refusal
 use Rattle.refusals.specs.Answer.{value, refuse}
@@ -22,7 +23,6 @@ use Rattle.bits.proofs.Digits.{bits_are, are_bits_drop}
 use Rattle.bits.proofs.Take.{field_got, field_bits}
 use Rattle.formulas.specs.declared.Instruction.{Instruction}
 use Rattle.formulas.specs.declared.Instruction.TheVariants.{Coefficient}
-use Rattle.packed.specs.declared.InstructionRead.TheVariants.{Got, Refused}
 use Rattle.packed.specs.declared.coefficient.Centred.{Centred}
 use Rattle.packed.specs.declared.loaded.Loaded.{Loaded}
 use Rattle.packed.specs.declared.loaded.Taken.{Taken}
@@ -138,7 +138,7 @@ module _ {s : List ℕ} {l : Loaded} (o : Beyond s l) {c : Taken} (tc : c ≡ ta
   pub is_fifth : c.field ≡ 5 → Fifth s l
   is_fifth e = record { near = o.near; carries = o.carries; code_there = o.code_there; is_five = rw tc at e }
 
-  pub no_such_code : (F v : ℕ) → (c.field ≡ 5 → ⊥) → (c.field ≡ 6 → ⊥) → InstructedFrom s F v l (Refused refusal.Code)
+  pub no_such_code : (F v : ℕ) → (c.field ≡ 5 → ⊥) → (c.field ≡ 6 → ⊥) → InstructedFrom s F v l (Err refusal.Code)
   unfolding instruction
   no_such_code F v five six =
       let other : ((code_taken l).field ≡ 5 → ⊥) = rw tc at five in
@@ -152,7 +152,7 @@ module _ {s : List ℕ} {l : Loaded} (o : Fifth s l) where
       coded_as s v l o.carries o.code_there F 5 (lit≤ tt) o.is_five
       ∙ by_code_margin F v (left s (code_taken l).rest)
 
-  pub margin_ended : {n : ℕ} → length s < (l.at + n + 7) / 8 → n ≤ 66 → ReadFrom s l (Refused refusal.Ended)
+  pub margin_ended : {n : ℕ} → length s < (l.at + n + 7) / 8 → n ≤ 66 → ReadFrom s l (Err refusal.Ended)
   margin_ended e m = record { is = λ v. refuses s v l o.carries (λ F. asks F v ∙ margin_missing o.carries (omega (arith, e))) }
 
   module _ (e : (l.at + 66 + 7) / 8 ≤ length s) where
@@ -182,13 +182,13 @@ module _ {s : List ℕ} {l : Loaded} (o : Fifth s l) where
               twos_complement_size (constant_taken l).field (shr_lt 32 32 (past_code o.carries).small),
             )
 
-        pub margin_refused : M < n + g.margin → ReadFrom s l (Refused refusal.Constant)
+        pub margin_refused : M < n + g.margin → ReadFrom s l (Err refusal.Constant)
         margin_refused over =
             let far = rw (tn, is_kept, gets.margin_is) at over in
             record { is = λ v. refuses s v l o.carries (λ F. asks F v ∙ margin_wrong o.carries all_there far) }
 
         pub margin_ahead : n + g.margin ≤ M
-            → ReadFrom s l (Got (Coefficient (back g.centre) g.margin) (record { at = l.at + 66 }))
+            → ReadFrom s l (Ok (record { instruction = Coefficient (back g.centre) g.margin; next = record { at = l.at + 66 } }))
         margin_ahead within =
             let near = rw (tn, is_kept, gets.margin_is) at within in
             rw (is_kept, gets.margin_is)

@@ -2,14 +2,14 @@
 use mathlib.Core.Path.{◌≡◌, sym, ◌∙◌, ap, ap₂}
 use mathlib.Core.List.{List}
 use Prim.Native.Nat.{ℕ, ◌+◌}
+use Rattle.std.specs.declared.result.Result.TheVariants.{Ok, Err}
 use Rattle.refusals.proofs.Answers.{no_value, same_value}
 use Rattle.refusals.proofs.OneReply.{one_refusal}
 use Rattle.bits.specs.declared.Cursor.{Cursor}
 use Rattle.bits.specs.Reader.{Read}
 use Rattle.bits.proofs.OneField.{one_cursor}
 use Rattle.formulas.specs.declared.Instruction.{Instruction}
-use Rattle.packed.specs.declared.InstructionRead.{InstructionRead}
-use Rattle.packed.specs.declared.InstructionRead.TheVariants.{Got, Refused}
+use Rattle.packed.specs.ReaderAnswers.{InstructionRead}
 use Rattle.packed.specs.Format.{wide}
 use Rattle.packed.specs.ReaderAnswers.{instruction_answer, InstructionPast, Instructed}
 use Rattle.packed.specs.Walk.{Readable, Decodes}
@@ -24,12 +24,12 @@ instructed_one_outcome s F v c r t a b = by_case r t (a.answers ∙ sym b.answer
   where
     by_case : (r t : InstructionRead) → instruction_answer s r ≡ instruction_answer s t → InstructionPast c r
         → InstructionPast c t → r ≡ t
-    by_case (Got i d) (Got j e) u p q =
+    by_case (Ok d) (Ok e) u p q =
         let same = ap (λ (x : Read Instruction). x.got) (same_value u) in
-        ap₂ Got same (ends_once c d e same p q)
-    by_case (Got i d) (Refused q) u p z = absurd (no_value (sym u))
-    by_case (Refused q) (Got j e) u p z = absurd (no_value u)
-    by_case (Refused q) (Refused z) u p w = ap Refused (one_refusal u)
+        ap₂ (λ (i : Instruction) (n : Cursor). Ok (record { instruction = i; next = n })) same (ends_once c d.next e.next same p q)
+    by_case (Ok d) (Err q) u p z = absurd (no_value (sym u))
+    by_case (Err q) (Ok e) u p z = absurd (no_value u)
+    by_case (Err q) (Err z) u p w = ap Err (one_refusal u)
 
 pub decodes_one_outcome : {s : List ℕ} {c d e : Cursor} {i j : Instruction} → Readable s c → Decodes s c i d
     → Decodes s c j e → (i ≡ j) × (d ≡ e)

@@ -7,6 +7,7 @@ use native.Mathlib.Omega.{arith}
 use lib.Dec.{ltb, lit≤}
 use lib.ListN.{length}
 use borrow.Author.Tests.{le-leb, lt-leb, ltb-true, ltb-false}
+use Rattle.std.specs.declared.result.Result.TheVariants.{Ok, Err}
 use Rattle.refusals.specs.declared.Refusal.TheVariants as refusal
 use Rattle.refusals.specs.Answer.{value, refuse}
 use Rattle.refusals.proofs.Answers.{same_value}
@@ -16,7 +17,6 @@ use Rattle.bits.specs.Reader.{Read}
 use Rattle.bits.proofs.Take.{field_got}
 use Rattle.formulas.specs.declared.Instruction.{Instruction}
 use Rattle.formulas.specs.declared.Instruction.TheVariants.{Reciprocal}
-use Rattle.packed.specs.declared.InstructionRead.TheVariants.{Got, Refused}
 use Rattle.packed.specs.declared.loaded.Loaded.{Loaded}
 use Rattle.packed.specs.declared.loaded.Taken.{Taken}
 use Rattle.packed.specs.Items.{operand, small_scale, permitted, Form, ask, done, read}
@@ -59,7 +59,7 @@ module _ {s : List ℕ} {l : Loaded} (o : Sixth s l) where
       coded_as s v l o.carries o.code_there F 6 (lit≤ tt) o.is_six
       ∙ by_code_reciprocal F v (left s (code_taken l).rest)
 
-  pub scale_refused : (F v : ℕ) {n : ℕ} → n < F → 16 ≤ n → InstructedFrom s F v l (Refused refusal.ReciprocalScale)
+  pub scale_refused : (F v : ℕ) {n : ℕ} → n < F → 16 ≤ n → InstructedFrom s F v l (Err refusal.ReciprocalScale)
   scale_refused F v m k = refuses_at s v l o.carries (asks F v ∙ scale_wrong F v (left s (code_taken l).rest) (omega arith))
 
   module _ {c : Taken} (tc : c ≡ taken 3 l) {i : Taken} (ti : i ≡ taken 10 c.rest) where
@@ -73,7 +73,7 @@ module _ {s : List ℕ} {l : Loaded} (o : Sixth s l) where
       first_test : d ≡ ltb (8 * length s) (first_taken l).rest.at
       first_test = rw is_first at td
 
-      pub divisor_ended : (F v : ℕ) → F ≤ 16 → d ≡ true → InstructedFrom s F v l (Refused refusal.Ended)
+      pub divisor_ended : (F v : ℕ) → F ≤ 16 → d ≡ true → InstructedFrom s F v l (Err refusal.Ended)
       divisor_ended F v fits e =
           refuses_at s v l o.carries
           (asks_one F v fits ∙ rw (missing s (code_taken l).rest (operand v) (lit≤ tt) (ltb-true _ _ (sym first_test ∙ e))))
@@ -82,12 +82,12 @@ module _ {s : List ℕ} {l : Loaded} (o : Sixth s l) where
         reaches : Reaches s (first_taken l).rest
         reaches = record { is = ltb-false _ _ (sym first_test ∙ e) }
 
-        pub divisor_refused : (F v : ℕ) → F ≤ 16 → v ≤ i.field → InstructedFrom s F v l (Refused refusal.Operand)
+        pub divisor_refused : (F v : ℕ) → F ≤ 16 → v ≤ i.field → InstructedFrom s F v l (Err refusal.Operand)
         divisor_refused F v fits m =
             refuses_at s v l o.carries (asks_one F v fits ∙ rw (first_wrong s v l o.carries reaches (rw is_first at m)))
 
         pub divisor_ahead : (F v : ℕ) {p : Cursor} → F ≤ 16 → i.field < v → p ≡ place_of i.rest
-            → InstructedFrom s F v l (Got (Reciprocal i.field) p)
+            → InstructedFrom s F v l (Ok (record { instruction = Reciprocal i.field; next = p }))
         divisor_ahead F v fits m q =
             rw is_first
             (gives_at s v l o.carries (first_taken l).rest (rw is_first at q) (omega arith)

@@ -16,7 +16,7 @@ use Rattle.refusals.specs.Answer.{value, refuse}
 use Rattle.bits.specs.declared.Cursor.{Cursor}
 use Rattle.bits.specs.Bits.{bits, number}
 use Rattle.bits.specs.Reader.{field}
-use Rattle.bits.specs.Fields.{before, IsAhead}
+use Rattle.bits.specs.Fields.{IsAhead}
 use Rattle.bits.proofs.Ends.{lifted}
 use Rattle.bits.proofs.Gather.{length_bits}
 use Rattle.bits.proofs.Take.{field_got, field_ended}

@@ -23,7 +23,7 @@ use Rattle.whole.proofs.Cases.{both, less}
 use Rattle.formulas.specs.declared.Header.{Header}
 use Rattle.formulas.specs.declared.Instruction.{Instruction}
 use Rattle.formulas.specs.declared.Instruction.TheVariants.{Add, Subtract, Multiply, Reciprocal}
-use Rattle.packed.specs.Items.{FieldKind, scale, inputs, instructions, outputs, code, width, permitted, complaint}
+use Rattle.packed.specs.Items.{FieldKind, width, permitted, complaint}
 use Rattle.packed.specs.Items.{twos_complement, from_below, entry, Form, done, ask, read, ◌>>=◌}
 use Rattle.packed.specs.Format.{header, two_operands, by_code, instruction, several, results}
 use Rattle.packed.specs.Format.{is_padding}

@@ -1,5 +1,8 @@
 -- What each case of the reader's answers stands for, over the bytes that were read.
 use Rattle.std.specs.Prelude.{◌≡◌, Bool, true, false, cond, List, ℕ, ◌+◌, ◌*◌, ◌^◌, ◌≤◌, ◌<◌, eqb, length, take}
+use Rattle.std.specs.declared.result.Result.{Result}
+use Rattle.std.specs.declared.result.Result.TheVariants.{Ok, Err}
+use Rattle.refusals.specs.declared.Refusal.{Refusal}
 use Rattle.refusals.specs.declared.Refusal.TheVariants as refusal
 use Rattle.refusals.specs.Answer.{Answer, value, refuse}
 use Rattle.bits.specs.declared.Cursor.{Cursor}
@@ -8,23 +11,26 @@ use Rattle.bits.specs.Reader.{Read}
 use Rattle.bits.specs.Fields.{before}
 use Rattle.formulas.specs.declared.Instruction.{Instruction}
 use Rattle.formulas.specs.declared.Instruction.TheVariants.{Add, Subtract, Multiply}
-use Rattle.packed.specs.declared.InstructionRead.{InstructionRead}
-use Rattle.packed.specs.declared.InstructionRead.TheVariants as instruction_read
 use Rattle.packed.specs.Items.{twos_complement, read}
 use Rattle.packed.specs.Format.{instruction, wide, widest}
 use Rattle.packed.specs.declared.coefficient.Centred.{Centred}
+use Rattle.packed.specs.declared.Decoded.{Decoded}
 use Rattle.packed.specs.declared.loaded.Loaded.{Loaded}
 use Rattle.packed.specs.declared.loaded.Taken.{Taken}
 use Rattle.packed.specs.Loading.{place_of, left, taken, Carries}
 
+-- an instruction and the place after it, or the refusal
+abbrev pub InstructionRead : Type 0
+InstructionRead = Result Decoded Refusal
+
 abbrev pub instruction_answer : List ℕ → InstructionRead → Answer (Read Instruction)
-instruction_answer s (instruction_read.Got i c) = value (record { got = i; left = before s c })
-instruction_answer s (instruction_read.Refused r) = refuse r
+instruction_answer s (Ok d) = value (record { got = d.instruction; left = before s d.next })
+instruction_answer s (Err r) = refuse r
 
 -- the cursor after an instruction stands where its bits end
 abbrev pub InstructionPast : Cursor → InstructionRead → Type 0
-InstructionPast c (instruction_read.Got i d) = d.at ≡ c.at + wide i
-InstructionPast c (instruction_read.Refused r) = Unit {0}
+InstructionPast c (Ok d) = d.next.at ≡ c.at + wide d.instruction
+InstructionPast c (Err r) = Unit {0}
 
 -- an instruction that makes value v of a formula of scale F was read
 pub record Instructed (s : List ℕ) (F v : ℕ) (c : Cursor) (r : InstructionRead) : Type 0 where
@@ -131,5 +137,5 @@ pub record IsCentred (s : List ℕ) (l : Loaded) (r : Centred) : Type 0 where
 
 -- whether the bytes end inside an operand before another refusal is due
 abbrev pub CutShort : List ℕ → ℕ → Loaded → Bool → Type 0
-CutShort s v l true = ReadBelow s v l (instruction_read.Refused refusal.Ended)
+CutShort s v l true = ReadBelow s v l (Err refusal.Ended)
 CutShort s v l false = Operands s v l

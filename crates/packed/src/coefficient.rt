@@ -2,7 +2,7 @@
 // end.
 ghost use Rattle.packed.specs.ReaderAnswers.{WithMargin, IsCentred};
 
-use crate::loaded::Loaded;
+use crate::loaded::{CODE, CONSTANT, Loaded};
 use crate::making::signed;
 use bits::ending;
 
@@ -17,8 +17,8 @@ pub fn gather(s: &[u8], l: Loaded) -> Centred
     requires { WithMargin s.now l }
     ensures { IsCentred s.now l result }
 {
-    let code = l.code();
-    let centre = code.rest.constant();
+    let code = l.take::<CODE>();
+    let centre = code.rest.take::<CONSTANT>();
     Centred {
         centre: signed(centre.field),
         margin: ending(s, l.at + 66, 31),

@@ -1,9 +1,14 @@
-// A cursor that carries the bits it has loaded. The format's widths stand here once, each as a method by name that
-// hands back the field with the cursor past it.
+// A cursor that carries the bits it has loaded. The format's widths stand here once, by name.
 ghost use Rattle.std.specs.Prelude.{◌≡◌, ◌*◌, ◌^◌, ◌≤◌, ltb, length};
 ghost use Rattle.packed.specs.Loading.{place_of, taken, Loads};
 
 use bits::Cursor;
+
+pub const CODE: u32 = 3;
+
+pub const OPERAND: u32 = 10;
+
+pub const CONSTANT: u32 = 32;
 
 // So many bits from the first, and the bits from there on, the first on top.
 #[derive(Clone, Copy)]
@@ -29,41 +34,16 @@ pub fn load(s: &[u8], c: Cursor) -> Loaded
 }
 
 impl Loaded {
-    pub fn code(self) -> Taken
-        requires { self.at ≤ 2 ^ 31 }
-        ensures { result ≡ taken 3 self }
+    // The field of so many bits, with the cursor past it.
+    pub fn take<const WIDTH: u32>(self) -> Taken
+        requires { (1 ≤ WIDTH) × (WIDTH ≤ 32) × (self.at ≤ 2 ^ 31) }
+        ensures { result ≡ taken WIDTH self }
     {
         Taken {
-            field: self.ahead >> 61,
+            field: self.ahead >> (64 - WIDTH),
             rest: Loaded {
-                at: self.at + 3,
-                ahead: self.ahead << 3,
-            },
-        }
-    }
-
-    pub fn operand(self) -> Taken
-        requires { self.at ≤ 2 ^ 31 }
-        ensures { result ≡ taken 10 self }
-    {
-        Taken {
-            field: self.ahead >> 54,
-            rest: Loaded {
-                at: self.at + 10,
-                ahead: self.ahead << 10,
-            },
-        }
-    }
-
-    pub fn constant(self) -> Taken
-        requires { self.at ≤ 2 ^ 31 }
-        ensures { result ≡ taken 32 self }
-    {
-        Taken {
-            field: self.ahead >> 32,
-            rest: Loaded {
-                at: self.at + 32,
-                ahead: self.ahead << 32,
+                at: self.at + WIDTH as usize,
+                ahead: self.ahead << WIDTH,
             },
         }
     }

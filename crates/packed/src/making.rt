@@ -10,14 +10,11 @@ pub fn signed(n: u64) -> i64
     requires { n < 2 ^ 32 }
     ensures { result ≡ twos_complement n }
 {
-    if n < 0x8000_0000 {
-        n as i64
-    } else {
-        n as i64 - 0x1_0000_0000
-    }
+    i64::from((n as u32).cast_signed())
 }
 
-// The instruction that a code from 2 on makes of two operands.
+// The instruction that a code from 2 on makes of two operands. A code stays the three bits of the format; the enum that
+// codes become is `Instruction`.
 pub fn combine(code: u64, i: usize, j: usize) -> Instruction
     ensures { result ≡ combined code i j }
 {

@@ -4,25 +4,20 @@ ghost use Rattle.std.specs.Prelude.{◌^◌, ◌≤◌};
 ghost use Rattle.packed.specs.Loading.{place_of, Carries};
 ghost use Rattle.packed.specs.Walk.{Readable, DecodesFrom};
 
+use crate::Decoded;
 use crate::coefficient::gather;
-use crate::loaded::Loaded;
+use crate::loaded::{CODE, CONSTANT, Loaded, OPERAND};
 use crate::making::{combine, signed};
 use bits::Cursor;
 use formulas::Instruction;
-
-#[derive(Clone, Copy)]
-pub struct Decoded {
-    pub instruction: Instruction,
-    pub next: Cursor,
-}
 
 pub fn decode_ahead(s: &[u8], l: Loaded) -> Decoded
     requires { (l.at ≤ 2 ^ 30) × Readable s.now (place_of l) × Carries s.now l 57 }
     ensures { DecodesFrom s.now l result.instruction result.next }
 {
-    let code = l.code();
+    let code = l.take::<CODE>();
     if code.field == 0 {
-        let constant = code.rest.constant();
+        let constant = code.rest.take::<CONSTANT>();
         return Decoded {
             instruction: Instruction::Constant(signed(constant.field)),
             next: constant.rest.place(),
@@ -30,7 +25,7 @@ pub fn decode_ahead(s: &[u8], l: Loaded) -> Decoded
     }
     if 5 <= code.field {
         if code.field == 6 {
-            let divisor = code.rest.operand();
+            let divisor = code.rest.take::<OPERAND>();
             return Decoded {
                 instruction: Instruction::Reciprocal(divisor.field as usize),
                 next: divisor.rest.place(),
@@ -42,14 +37,14 @@ pub fn decode_ahead(s: &[u8], l: Loaded) -> Decoded
             next: Cursor { at: l.at + 66 },
         };
     }
-    let first = code.rest.operand();
+    let first = code.rest.take::<OPERAND>();
     if code.field == 1 {
         return Decoded {
             instruction: Instruction::Negate(first.field as usize),
             next: first.rest.place(),
         };
     }
-    let second = first.rest.operand();
+    let second = first.rest.take::<OPERAND>();
     Decoded {
         instruction: combine(code.field, first.field as usize, second.field as usize),
         next: second.rest.place(),

@@ -1,23 +1,15 @@
 // The packer: the tests, then room, then the bytes. Nothing is written before the tests have passed.
 #![tactic(auto)]
 
-ghost use Rattle.std.specs.Prelude.{◌≡◌, ◌^◌, ◌≤◌};
-ghost use Rattle.writing.specs.Bytes.{whole_bytes};
 ghost use Rattle.packing.specs.Raw.{parts, handed};
 ghost use Rattle.packing.specs.PackAnswers.{Packs};
 
-use fitting::{Size, formula_size};
+use fitting::formula_size;
 use formula_writer::write;
-use refusals::{Refusal, Reply};
+use packing::Handed;
+use refusals::{Refusal, Refused};
 
-fn whole_bytes(bits: usize) -> usize
-    requires { bits ≤ 2 ^ 20 }
-    ensures { result ≡ whole_bytes bits }
-{
-    (bits + 7) / 8
-}
-
-// The packed bytes in front of `out` and how many they are, or the refusal.
+// The packed bytes in front of `out` and how many they are, or the refusal. The lists come one by one, as C lends them.
 pub fn pack(
     scale: i64,
     inputs: i64,
@@ -26,18 +18,23 @@ pub fn pack(
     seconds: &[i64],
     outputs: &[i64],
     out: &mut [u8],
-) -> Reply
+) -> Result<usize, Refused>
     ensures { Packs (handed scale inputs
         (parts codes.now firsts.now seconds.now outputs.now))
         out.old out.new result }
 {
-    match formula_size(scale, inputs, codes, firsts, seconds, outputs) {
-        Size::Refused(r) => Reply::Refused(r, 0),
-        Size::Bits(n) => {
-            if out.len() < whole_bytes(n) {
-                return Reply::Refused(Refusal::NoRoom, 0);
-            }
-            Reply::Done(write(scale, inputs, codes, firsts, seconds, outputs, out))
-        }
+    let given = Handed {
+        scale,
+        inputs,
+        codes,
+        firsts,
+        seconds,
+        outputs,
+    };
+    let bits = formula_size(&given)?;
+    let bytes = bits.div_ceil(8);
+    if out.len() < bytes {
+        return Err(Refusal::NoRoom.into());
     }
+    Ok(write(&given, out))
 }

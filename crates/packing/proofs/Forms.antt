@@ -15,7 +15,7 @@ use lib.Seq.{length-take-le, take_at, drop_at}
 use Rattle.refusals.specs.Answer.{Answer, value, refused, then}
 use Rattle.refusals.proofs.Answers.{same_value, first_of}
 use Rattle.bits.specs.Bits.{to_bits, number}
-use Rattle.bits.specs.Reader.{Read, field}
+use Rattle.bits.specs.Reader.{Read}
 use Rattle.bits.proofs.Digits.{AreBits, are_bits_take, length_to_bits, number_to_bits}
 use Rattle.bits.proofs.Take.{field_got, field_whole}
 use Rattle.refusals.specs.Refusals.{refusal_number}

@@ -8,11 +8,11 @@ use borrow.Author.Tests.{eqb-true, eq-eqb, le-leb}
 use lib.Dec.{eqb, leb}
 use lib.IntN.{ℤ, pos}
 use lib.ListN.{length, take, length-map}
+use Rattle.std.specs.declared.result.Result.TheVariants.{Ok}
 use Rattle.whole.proofs.Cases.{both, down}
 use Rattle.lists.specs.Over.{over}
 use Rattle.lists.proofs.Over.{over_front}
-use Rattle.refusals.specs.declared.Reply.{Reply}
-use Rattle.refusals.specs.declared.Reply.TheVariants as reply
+use Rattle.refusals.specs.Said.{Reply}
 use Rattle.refusals.specs.Answer.{Answer, value, refused, then}
 use Rattle.refusals.specs.Said.{answered}
 use Rattle.refusals.proofs.Answers.{no_value, same_value, first_of}
@@ -93,7 +93,7 @@ record PackedFront (given : RawFormula) (old new : List ℕ) (n : ℕ) : Type 0 
   long : n ≡ length bytes
   front : take n new ≡ bytes
 
-packed_first : (given : RawFormula) {old new : List ℕ} {n : ℕ} → Packs given old new (reply.Done n) → PackedFront given old new n
+packed_first : (given : RawFormula) {old new : List ℕ} {n : ℕ} → Packs given old new (Ok n) → PackedFront given old new n
 packed_first given {old} {new} {n} p = by_answer (pack_into (length old) given) refl p.says p.writes
   where
     by_answer : (a : Answer (List ℕ)) → pack_into (length old) given ≡ a → answered n ≡ packed_said a
@@ -102,14 +102,14 @@ packed_first given {old} {new} {n} p = by_answer (pack_into (length old) given) 
         record { bytes = s; packed = u; long = ap first_said e; front = ap (take n) w ∙ over_front s old (sym (ap first_said e)) }
     by_answer (refused k) u e w = absurd (never_both e)
 
-pub packed_bytes_few : {given : RawFormula} {old new : List ℕ} {n : ℕ} → Packs given old new (reply.Done n) → n ≤ 4248
+pub packed_bytes_few : {given : RawFormula} {old new : List ℕ} {n : ℕ} → Packs given old new (Ok n) → n ≤ 4248
 packed_bytes_few {given} {old} p =
     let q = packed_first given p in
     let w = pack_into_written (length old) given q.packed in
     omega (arith, q.long, ap length w.is, packed_few w.holds w.accepted.well_formed)
 
 -- "Reading what it wrote gives the same list back"
-pub read_what_was_packed : {F m : ℤ} {p : Parts} {old new : List ℕ} {n : ℕ} → Packs (handed F m p) old new (reply.Done n)
+pub read_what_was_packed : {F m : ℤ} {p : Parts} {old new : List ℕ} {n : ℕ} → Packs (handed F m p) old new (Ok n)
     → {lent got : Parts} {a : Answer Header} → has_places (formula_of (handed F m p)).header lent ≡ true
     → Unpacks (take n new) lent got a → ReadBack F m p lent got a
 unfolding unpack_into
@@ -180,7 +180,7 @@ read_limits {s} {lent} reads =
 pub packed_what_was_read : {s : List ℕ} {lent got : Parts} {h : Header} → AreBytes s → Unpacks s lent got (value h)
     → {old new : List ℕ} {r : Reply} → length s ≤ length old
     → Packs (handed (pos h.scale) (pos h.inputs) (fronts h got)) old new r
-    → (r ≡ reply.Done (length s)) × (new ≡ over s old)
+    → (r ≡ Ok (length s)) × (new ≡ over s old)
 unfolding pack_into
 packed_what_was_read {s} {lent} {got} {h} bytes reads {old} {new} {r} room packs =
     let w = was_read s lent reads.says in
@@ -194,7 +194,7 @@ packed_what_was_read {s} {lent} {got} {h} bytes reads {old} {new} {r} room packs
     (pack_well_formed f (accepted_well_formed s w.means))
     ∙ ap (λ l. cond (leb (length l) (length old)) (value l) (refused 10)) (packed_read s bytes w.means)
     ∙ ap (λ (t : Bool). cond t (value s) (refused 10)) (le-leb (length s) (length old) room) in
-    (one_reply r (reply.Done (length s)) (packs.says ∙ ap packed_said into), packs.writes ∙ ap (λ b. over (packed_front b) old) into)
+    (one_reply r (Ok (length s)) (packs.says ∙ ap packed_said into), packs.writes ∙ ap (λ b. over (packed_front b) old) into)
   where
     front_is : (w : WasRead s lent h) → fronts h got ≡ parts_of (raw_formula w.holds)
     front_is w =

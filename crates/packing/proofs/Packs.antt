@@ -15,7 +15,7 @@ use Rattle.rules.specs.Reciprocals.{top_reciprocal_scale}
 use Rattle.refusals.specs.Answer.{Answer, value, refused, refuse, then}
 use Rattle.formulas.specs.declared.Instruction.{Instruction}
 use Rattle.formulas.specs.declared.Instruction.TheVariants.{Constant, Negate, Add, Subtract, Multiply, Coefficient, Reciprocal}
-use Rattle.packed.specs.Items.{FieldKind, scale, inputs, instructions, outputs, code, operand, margin, twos_complement, permitted}
+use Rattle.packed.specs.Items.{FieldKind, scale, inputs, instructions, code, operand, margin, twos_complement, permitted}
 use Rattle.packed.specs.Items.{complaint}
 use Rattle.lists.specs.Each.{Each, none, one}
 use Rattle.formulas.specs.Formula.{Formula, Smaller, WellFormed}

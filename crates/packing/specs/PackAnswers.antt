@@ -1,7 +1,7 @@
 -- What the packer and the way back say and leave: the reply, and every place of every lent list.
 use Rattle.std.specs.Prelude.{◌≡◌, List, [], ℕ, length}
 use Rattle.lists.specs.Over.{over}
-use Rattle.refusals.specs.declared.Reply.{Reply}
+use Rattle.refusals.specs.Said.{Reply}
 use Rattle.refusals.specs.Answer.{Answer, value, refused, then}
 use Rattle.refusals.specs.Said.{Said, answered, refuses, reply_said}
 use Rattle.formulas.specs.declared.Header.{Header}

@@ -57,12 +57,18 @@ program_slots F m rs = several_slots (instruction_slots F) m rs
 abbrev pub result_slots : ℕ → List ℤ → List Slot
 result_slots v os = several_slots (output_slots v) 0 os
 
--- of what is handed over
+-- of what is handed over: its header, its instructions and its outputs
+abbrev pub header_of : RawFormula → List Slot
+header_of r = header_slots r.scale r.inputs (count r) (length r.results)
+
+abbrev pub program_of : RawFormula → List Slot
+program_of r = program_slots (nat_abs r.scale) (nat_abs r.inputs) r.program
+
+abbrev pub results_of : RawFormula → List Slot
+results_of r = result_slots (nat_abs r.inputs + length r.program) r.results
+
 unfoldable pub raw_slots : RawFormula → List Slot
-raw_slots r =
-    header_slots r.scale r.inputs (count r) (length r.results)
-    ++ (program_slots (nat_abs r.scale) (nat_abs r.inputs) r.program
-    ++ result_slots (nat_abs r.inputs + length r.program) r.results)
+raw_slots r = header_of r ++ (program_of r ++ results_of r)
 
 -- of a formula
 unfoldable pub fields_of : Formula → List Slot

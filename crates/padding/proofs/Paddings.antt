@@ -2,11 +2,13 @@
 use mathlib.Core.Path.{◌≡◌, refl, sym, ◌∙◌, ap}
 use mathlib.Core.Bool.{Bool, true, false, ◌&&◌}
 use mathlib.Core.List.{List, [], ◌∷◌}
-use Prim.Native.Nat.{ℕ, suc, ◌+◌, ◌-◌, ◌*◌, ◌/◌, ◌%◌, ◌^◌, ◌≤◌, ◌<◌}
+use mathlib.Core.Logic.{◌⊎◌}
+use Prim.Native.Nat.{ℕ, suc, ◌-◌, ◌*◌, ◌/◌, ◌%◌, ◌^◌, ◌≤◌, ◌<◌}
 use native.Mathlib.Omega.{arith}
 use lib.Dec.{eqb}
 use borrow.Author.Tests.{lt-ltb, le-ltb}
 use lib.ListN.{length, get_or, length-drop}
+use Rattle.std.specs.Int.{div_ceil}
 use Rattle.bits.specs.declared.Cursor.{Cursor}
 use Rattle.bits.specs.Bits.{bits, number}
 use Rattle.bits.specs.Fields.{before}
@@ -32,17 +34,17 @@ module _ (s : List ℕ) (c : Cursor) where
   long : length (before s c) ≡ 8 * length s - c.at
   long = omega (arith, length-drop c.at (bits s), length_bits s)
 
-  pub byte_follows : (c.at + 7) / 8 < length s → false ≡ is_padding (before s c)
-  byte_follows l = many_bits (before s c) (omega (arith, long))
+  module _ {k : ℕ} (up : k ≡ div_ceil c.at 8) where
+    pub byte_follows : k < length s → false ≡ is_padding (before s c)
+    byte_follows l = many_bits (before s c) (omega (arith, long))
 
-  module _ (last : length s ≤ (c.at + 7) / 8) where
-    pub no_padding : c.at % 8 ≡ 0 → true ≡ is_padding (before s c)
-    no_padding e = no_bits (before s c) (omega (arith, long))
+    module _ (last : length s ≤ k) where
+      pub no_padding : (c.at % 8 ≡ 0) ⊎ (length s ≤ c.at / 8) → true ≡ is_padding (before s c)
+      no_padding e = no_bits (before s c) (omega (arith, long))
 
-    pub past_padding : length s ≤ c.at / 8 → true ≡ is_padding (before s c)
-    past_padding e = no_bits (before s c) (omega (arith, long))
+      pub some_padding : {n : ℕ} → (c.at % 8 ≡ 0 → ⊥) → c.at / 8 < length s
+          → n ≡ get_or s (c.at / 8) 0 % 2 ^ (8 - c.at % 8) → eqb n 0 ≡ is_padding (before s c)
+      some_padding other l e =
+          few_bits (before s c) (omega (arith, long)) (e ∙ sym (last_bits s c.at (omega arith)))
 
-    pub some_padding : {n : ℕ} → (c.at % 8 ≡ 0 → ⊥) → c.at / 8 < length s
-        → n ≡ get_or s (c.at / 8) 0 % 2 ^ (8 - c.at % 8) → eqb n 0 ≡ is_padding (before s c)
-    some_padding other l e =
-        few_bits (before s c) (omega (arith, long)) (e ∙ sym (last_bits s c.at (omega arith)))
+pub ruleset found = (byte_follows, no_padding, some_padding)

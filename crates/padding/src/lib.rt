@@ -11,22 +11,20 @@ fn low(b: u8, width: u32) -> u64
     requires { width ≤ 8 }
     ensures { result ≡ b % 2 ^ width }
 {
-    b as u64 % (1u64 << width)
+    u64::from(b) % (1 << width)
 }
 
 // Whether the bits left are fewer than eight, and all zero.
+#[tactic(auto, using(crate::proofs::Paddings::found))]
 pub fn padded(s: &[u8], c: Cursor) -> bool
     requires { c.at ≤ 2 ^ 20 }
     ensures { result ≡ is_padding (before s.now c) }
 {
     let at = c.at;
-    if (at + 7) / 8 < s.len() {
+    if at.div_ceil(8) < s.len() {
         return false;
     }
-    if at % 8 == 0 {
-        return true;
-    }
-    if s.len() <= at / 8 {
+    if at % 8 == 0 || s.len() <= at / 8 {
         return true;
     }
     low(s[at / 8], 8 - (at % 8) as u32) == 0

@@ -1,109 +1,81 @@
--- Text cut at the first place of a byte: what a search has found so far, and lines as pieces cut at LF.
+-- Text cut at the first place of a byte: where it is found, and lines as pieces cut at LF.
 -- Assumes nothing.
-use mathlib.Core.Path.{◌≡◌, refl, sym, ◌∙◌, ap, ap₂}
-use mathlib.Core.Bool.{Bool, true, false, cond}
-use mathlib.Core.List.{List, [], ◌∷◌, ◌++◌, append-nil}
-use mathlib.Core.Option.{Option, none, some}
-use Prim.Native.Nat.{ℕ, suc, ◌+◌, ◌^◌, ◌≤◌, ◌<◌}
-use native.Mathlib.Numerals.{add-one}
-use native.Mathlib.Omega.{arith}
-use borrow.Author.Tests.{eq-eqb, ne_eqb}
-use lib.Dec.{eqb}
-use lib.ListN.{length, get_or, take, drop, drop_of_length-le}
-use lib.Seq.{take-suc, drop-cons, append_snoc, length-take-le}
-use mir.Syntax.{w64}
-use mir.Val.{Fits}
-use Rattle.whole.proofs.Cases.{by_case}
+use Rattle.std.proofs.Common.{◌≡◌, ℕ, suc, ◌+◌, ◌<◌, refl, sym, ◌∙◌, ap, Bool, true, false, cond, not, eqb, ltb, List, [], ◌∷◌, ◌++◌, length, append-nil, position, Option, Some, None, option_map, IfSome, one-add, lt-ltb, zero-lt-suc, arith}
+use Rattle.std.proofs.lemmas.List.Quantifiers.{position-Some}
+use Rattle.std.specs.List.{position_or_len}
+use Prim.Native.Nat.compare
+use lib.Seq.{append_snoc}
 use Rattle.parsing.specs.Lines.{LF, some_then, if_closed, lines_after, lines, ended_after, ended_lines}
 use Rattle.parsing.specs.Cut.{Halves, cut}
-use Rattle.parsing.specs.declared.Found.{Found}
-use Rattle.parsing.specs.declared.Found.TheVariants.{At, Nothing}
-use Rattle.parsing.specs.ParsingAnswers.{found_answer, Finds}
+use Rattle.parsing.specs.ParsingAnswers.{parted, Finds}
+
+-- the cut is at the first place of b
+cut_first : (b : ℕ) (s : List ℕ) → option_map (parted s) (position (λ x. eqb x b) s) ≡ cut b s
+cut_first b [] = refl
+cut_first b (x ∷ s) = by_test (eqb x b) (cut_first b s)
+  where
+    later : ℕ
+    later = position_or_len (λ x. eqb x b) s
+
+    behind : (t : Bool) → option_map (parted (x ∷ s)) (cond t (Some (suc later)) None)
+        ≡ some_then (option_map (parted s) (cond t (Some later) None)) (λ h. Some (record { front = x ∷ h.front; rest = h.rest }))
+    behind true = refl
+    behind false = refl
+
+    by_test : (t : Bool) → option_map (parted s) (position (λ x. eqb x b) s) ≡ cut b s
+        → option_map (parted (x ∷ s)) (let n = cond (not t) (1 + later) 0 in cond (ltb n (suc (length s))) (Some n) None)
+        ≡ cond t (Some (record { front = []; rest = s })) (some_then (cut b s) (λ h. Some (record { front = x ∷ h.front; rest = h.rest })))
+    by_test true h = rw (lt-ltb 0 (suc (length s)) (zero-lt-suc (length s)))
+    by_test false h =
+        rw (one-add, compare.suc-suc) (behind (ltb later (length s)) ∙ ap (λ o. some_then o (λ h. Some (record { front = x ∷ h.front; rest = h.rest }))) h)
+
+pub finds_first : (b : ℕ) (s : List ℕ) {r : Option ℕ} → r ≡ position (λ x. eqb x b) s → Finds b s r
+finds_first b s {r} e =
+    record { told = ap (option_map (parted s)) e ∙ cut_first b s; within = inside r e }
+  where
+    inside : (r : Option ℕ) → r ≡ position (λ x. eqb x b) s → IfSome r (λ i. i < length s)
+    inside None e = tt
+    inside (Some i) e = (position-Some (λ x. eqb x b) s i 0 (sym e)).0
+
+-- the parts and the byte between them are all of the text
+pub cut_long : (b : ℕ) (s : List ℕ) {h : Halves} → cut b s ≡ Some h → length h.front + suc (length h.rest) ≡ length s
+cut_long b [] e = cc
+cut_long b (x ∷ s) {h} e = by_test (eqb x b) e (λ g q. cut_long b s {h = g} q)
+  where
+    behind : Halves → Halves
+    behind h = record { front = x ∷ h.front; rest = h.rest }
+
+    pushed_long : (o : Option Halves) → some_then o (λ h. Some (behind h)) ≡ Some h
+        → ((g : Halves) → o ≡ Some g → length g.front + suc (length g.rest) ≡ length s) → length h.front + suc (length h.rest) ≡ suc (length s)
+    pushed_long None e rec = cc
+    pushed_long (Some g) e rec =
+        let same : behind g ≡ h = cc in
+        let front = ap (λ h. length h.front) same in
+        let rest = ap (λ h. length h.rest) same in
+        omega (arith, rec g refl, front, rest)
+
+    by_test : (t : Bool) → cond t (Some (record { front = []; rest = s })) (some_then (cut b s) (λ h. Some (behind h))) ≡ Some h
+        → ((g : Halves) → cut b s ≡ Some g → length g.front + suc (length g.rest) ≡ length s)
+        → length h.front + suc (length h.rest) ≡ suc (length s)
+    by_test true e rec =
+        let same : record { front = []; rest = s } ≡ h = cc in
+        omega (arith, ap (λ h. length h.front) same, ap (λ h. length h.rest) same)
+    by_test false e rec = pushed_long (cut b s) e rec
 
 -- more text before the cut
 abbrev pub pushed : List ℕ → Option Halves → Option Halves
-pushed more o = some_then o (λ h. some (record { front = more ++ h.front; rest = h.rest }))
-
-pushed_none : (o : Option Halves) → o ≡ pushed [] o
-pushed_none none = refl
-pushed_none (some h) = refl
-
-pushed_one : (more : List ℕ) (x : ℕ) (o : Option Halves) → pushed more (pushed (x ∷ []) o) ≡ pushed (more ++ x ∷ []) o
-pushed_one more x none = refl
-pushed_one more x (some h) = ap (λ f. some (record { front = f; rest = h.rest })) (sym (append_snoc more x h.front))
-
--- a search for b that has passed i bytes
-pub record Searched (b : ℕ) (s : List ℕ) (i : ℕ) : Type 0 where
-  pub within : i ≤ length s
-  pub so_far : cut b s ≡ pushed (take i s) (cut b (drop i s))
-
-module _ (b : ℕ) (s : List ℕ) where
-  pub searched_none : Searched b s 0
-  searched_none = record { within = omega arith; so_far = pushed_none (cut b s) }
-
-  here : {i : ℕ} → i < length s → cut b (drop i s) ≡ cut b (get_or s i 0 ∷ drop (suc i) s)
-  here {i} l = ap (cut b) (drop-cons s i 0 l)
-
-  cut_here : (x : ℕ) (t : List ℕ) (d : Bool) → eqb x b ≡ d
-      → cut b (x ∷ t) ≡ cond d (some (record { front = []; rest = t })) (pushed (x ∷ []) (cut b t))
-  cut_here x t d e = ap (λ (c : Bool). cond c (some (record { front = []; rest = t })) (pushed (x ∷ []) (cut b t))) e
-
-  pub searched_one : {i : ℕ} → i < length s → (get_or s i 0 ≡ b → ⊥) → Searched b s i → Searched b s (i + 1)
-  searched_one {i} l ne w =
-      record {
-        within = omega arith;
-        so_far =
-            w.so_far
-            ∙ ap (pushed (take i s)) (here l ∙ cut_here (get_or s i 0) (drop (suc i) s) false (ne_eqb (get_or s i 0) b ne))
-            ∙ pushed_one (take i s) (get_or s i 0) (cut b (drop (suc i) s))
-            ∙ ap₂ (λ (f r : List ℕ). pushed f (cut b r)) (sym (take-suc s i 0 l) ∙ ap (λ n. take n s) (sym (add-one i)))
-            (ap (λ n. drop n s) (sym (add-one i)));
-      }
-
-  pub searched_found : {i : ℕ} → i < length s → get_or s i 0 ≡ b → Searched b s i → Finds b s (At i)
-  searched_found {i} l e w =
-      record {
-        told =
-            sym (w.so_far
-            ∙ ap (pushed (take i s)) (here l ∙ cut_here (get_or s i 0) (drop (suc i) s) true (eq-eqb (get_or s i 0) b e))
-            ∙ ap (λ f. some (record { front = f; rest = drop (suc i) s })) (append-nil (take i s)));
-        within = l;
-      }
-
-  pub searched_all : {i : ℕ} → length s ≤ i → Searched b s i → Finds b s Nothing
-  searched_all {i} l w =
-      record { told = sym (w.so_far ∙ ap (λ r. pushed (take i s) (cut b r)) (drop_of_length-le s l)); within = tt }
-
--- what a search found, by its answer
-module _ {b : ℕ} {s : List ℕ} {r : Found} (f : Finds b s r) where
-  pub found_none : r ≡ Nothing → cut b s ≡ none
-  found_none e = by_case (found_answer s) f.told e
-
-  pub found_at : {i : ℕ} → r ≡ At i → cut b s ≡ some (record { front = take i s; rest = drop (suc i) s })
-  found_at e = by_case (found_answer s) f.told e
-
-  pub found_within : {i : ℕ} → r ≡ At i → i < length s
-  found_within e = rw e at f.within
-
-  pub found_next : {i : ℕ} → r ≡ At i → i + 1 ≤ length s
-  found_next e = let l = found_within e in omega arith
-
-  pub next_fits : {i : ℕ} → r ≡ At i → length s < 2 ^ 64 → Fits w64 (i + 1)
-  next_fits e l = record { fits = omega (arith, found_next e) }
-
-  pub found_long : {i : ℕ} → r ≡ At i → i ≡ length (take i s)
-  found_long {i} e = let l = found_within e in sym (length-take-le i s (omega arith))
+pushed more o = some_then o (λ h. Some (record { front = more ++ h.front; rest = h.rest }))
 
 -- lines, by the first LF
 abbrev pub lined : List ℕ → List ℕ → Option Halves → Option (List (List ℕ))
-lined begun s none = if_closed (begun ++ s)
-lined begun s (some h) = some_then (lines h.rest) (λ ls. some ((begun ++ h.front) ∷ ls))
+lined begun s None = if_closed (begun ++ s)
+lined begun s (Some h) = some_then (lines h.rest) (λ ls. Some ((begun ++ h.front) ∷ ls))
 
 lined_one : (begun : List ℕ) (b : ℕ) (s : List ℕ) (o : Option Halves)
     → lined (begun ++ b ∷ []) s o ≡ lined begun (b ∷ s) (pushed (b ∷ []) o)
-lined_one begun b s none = ap if_closed (append_snoc begun b s)
-lined_one begun b s (some h) =
-    ap (λ f. some_then (lines h.rest) (λ ls. some (f ∷ ls))) (append_snoc begun b h.front)
+lined_one begun b s None = ap if_closed (append_snoc begun b s)
+lined_one begun b s (Some h) =
+    ap (λ f. some_then (lines h.rest) (λ ls. Some (f ∷ ls))) (append_snoc begun b h.front)
 
 lines_after_cut : (begun s : List ℕ) → lines_after begun s ≡ lined begun s (cut LF s)
 unfolding lines
@@ -111,9 +83,9 @@ lines_after_cut begun [] = ap if_closed (sym (append-nil begun))
 lines_after_cut begun (b ∷ s) = by_test (eqb b LF) (lines_after_cut (begun ++ b ∷ []) s)
   where
     by_test : (t : Bool) → lines_after (begun ++ b ∷ []) s ≡ lined (begun ++ b ∷ []) s (cut LF s)
-        → cond t (some_then (lines_after [] s) (λ ls. some (begun ∷ ls))) (lines_after (begun ++ b ∷ []) s)
-        ≡ lined begun (b ∷ s) (cond t (some (record { front = []; rest = s })) (pushed (b ∷ []) (cut LF s)))
-    by_test true rec = ap (λ f. some_then (lines_after [] s) (λ ls. some (f ∷ ls))) (sym (append-nil begun))
+        → cond t (some_then (lines_after [] s) (λ ls. Some (begun ∷ ls))) (lines_after (begun ++ b ∷ []) s)
+        ≡ lined begun (b ∷ s) (cond t (Some (record { front = []; rest = s })) (pushed (b ∷ []) (cut LF s)))
+    by_test true rec = ap (λ f. some_then (lines_after [] s) (λ ls. Some (f ∷ ls))) (sym (append-nil begun))
     by_test false rec = rec ∙ lined_one begun b s (cut LF s)
 
 pub lines_cut : (s : List ℕ) → lines s ≡ lined [] s (cut LF s)
@@ -122,12 +94,12 @@ lines_cut s = lines_after_cut [] s
 
 -- the ended lines, by the first LF
 abbrev pub ended_by : List ℕ → Option Halves → List (List ℕ)
-ended_by begun none = []
-ended_by begun (some h) = (begun ++ h.front) ∷ ended_lines h.rest
+ended_by begun None = []
+ended_by begun (Some h) = (begun ++ h.front) ∷ ended_lines h.rest
 
 ended_one : (begun : List ℕ) (b : ℕ) (o : Option Halves) → ended_by (begun ++ b ∷ []) o ≡ ended_by begun (pushed (b ∷ []) o)
-ended_one begun b none = refl
-ended_one begun b (some h) = ap (λ f. f ∷ ended_lines h.rest) (append_snoc begun b h.front)
+ended_one begun b None = refl
+ended_one begun b (Some h) = ap (λ f. f ∷ ended_lines h.rest) (append_snoc begun b h.front)
 
 ended_after_cut : (begun s : List ℕ) → ended_after begun s ≡ ended_by begun (cut LF s)
 unfolding ended_lines
@@ -136,7 +108,7 @@ ended_after_cut begun (b ∷ s) = by_test (eqb b LF) (ended_after_cut (begun ++ 
   where
     by_test : (t : Bool) → ended_after (begun ++ b ∷ []) s ≡ ended_by (begun ++ b ∷ []) (cut LF s)
         → cond t (begun ∷ ended_after [] s) (ended_after (begun ++ b ∷ []) s)
-        ≡ ended_by begun (cond t (some (record { front = []; rest = s })) (pushed (b ∷ []) (cut LF s)))
+        ≡ ended_by begun (cond t (Some (record { front = []; rest = s })) (pushed (b ∷ []) (cut LF s)))
     by_test true rec = ap (λ f. f ∷ ended_after [] s) (sym (append-nil begun))
     by_test false rec = rec ∙ ended_one begun b (cut LF s)
 

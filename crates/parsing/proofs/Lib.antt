@@ -4,5 +4,4 @@ pub mod Cuts
 pub mod Gathering
 pub mod Decimals
 pub mod Signs
-pub mod Words
 pub mod OneGathering

@@ -1,80 +1,53 @@
 -- A number with or without its minus, by what reading its digits told. Assumes nothing.
-use mathlib.Core.Path.{◌≡◌, refl, sym, ◌∙◌, ap}
-use mathlib.Core.Bool.{Bool, true, false, cond}
-use mathlib.Core.List.{List, [], ◌∷◌}
-use mathlib.Core.Option.{Option, none, some}
-use Prim.Native.Nat.{ℕ, ◌-◌, ◌^◌, ◌≤◌, ◌<◌}
-use native.Mathlib.Nat.{not-suc-le-zero}
-use native.Mathlib.Omega.{arith}
-use borrow.Author.Tests.{eq-eqb, ne_eqb}
-use borrow.Author.Rules.{part_to_end}
-use lib.Dec.{eqb}
-use lib.IntN.{pos, neg_ℤ, ◌-ℤ◌}
-use lib.ListN.{length, get_or, take, drop}
-use mir.Syntax.{w64}
-use mir.Val.{SFits, to_z}
+use Rattle.std.proofs.Common.{◌≡◌, ℕ, ◌^◌, ◌<◌, sym, ◌∙◌, ap, Bool, true, false, ◌&&◌, cond, eqb, List, [], ◌∷◌, length, take, drop, ℤ, pos, neg_ℤ, ◌-ℤ◌, to_z, w64, arith, Option, Some, None}
+use lib.Pointwise.{pointwise}
 use mir.ValLaws.{to_z_pos}
 use Rattle.whole.proofs.Machine.{back}
-use Rattle.whole.proofs.Minus.{count_fits, minus_back}
-use Rattle.whole.proofs.Minus as law
-use Rattle.whole.proofs.Cases.{by_case}
-use Rattle.parsing.specs.declared.Digits.{Digits}
-use Rattle.parsing.specs.declared.Digits.TheVariants.{Got, Malformed}
+use Rattle.whole.proofs.Minus.{minus_back}
 use Rattle.parsing.specs.Lines.{some_then}
 use Rattle.parsing.specs.Number.{digits_meant, number_meant}
-use Rattle.parsing.specs.ParsingAnswers.{digits_answer, ReadsDigits}
+use Rattle.parsing.specs.ParsingAnswers.{ReadsDigits}
 
-pub number_empty : (s : List ℕ) → length s < 1 → none ≡ number_meant s
-unfolding number_meant
-number_empty [] l = refl
-number_empty (b ∷ s) l = absurd (omega arith)
+abbrev below_zero : Option ℕ → Option ℤ
+below_zero o = some_then o (λ n. Some (neg_ℤ (pos n)))
 
--- by the first byte
-number_is : (s : List ℕ) → 1 ≤ length s → (t : Bool) → eqb (get_or s 0 0) 45 ≡ t
-    → cond t (some_then (digits_meant (drop 1 s)) (λ n. some (neg_ℤ (pos n))))
-    (some_then (digits_meant s) (λ n. some (pos n))) ≡ number_meant s
-unfolding number_meant
-number_is [] l t e = absurd (not-suc-le-zero l)
-number_is (b ∷ s) l t e =
-    sym (ap (λ (t : Bool). cond t (some_then (digits_meant s) (λ n. some (neg_ℤ (pos n))))
-    (some_then (digits_meant (b ∷ s)) (λ n. some (pos n)))) e)
+abbrev from_zero : Option ℕ → Option ℤ
+from_zero o = some_then o (λ n. Some (pos n))
 
--- a number of ten digits on the machine, and 0 − it
-module _ {s : List ℕ} {r : Digits} {n : ℕ} (e : r ≡ Got n) (d : ReadsDigits s r) where
-  brief : n < 2 ^ 63
-  brief = let few : n < 10 ^ 10 = rw e at d.small in omega arith
+-- by whether the first byte is a minus
+number_is : (s : List ℕ) {t : Bool} → pointwise eqb (take 1 s) (45 ∷ []) ≡ t
+    → cond t (below_zero (digits_meant (drop 1 s))) (from_zero (digits_meant s)) ≡ number_meant s
+unfolding number_meant digits_meant
+number_is [] e = ap (λ t. cond t (below_zero None) (from_zero None)) (sym e)
+number_is (b ∷ s) e = by_test (eqb b 45) e
+  where
+    by_test : (u : Bool) {t : Bool} → u && true ≡ t → cond t (below_zero (digits_meant s)) (from_zero (digits_meant (b ∷ s)))
+        ≡ cond u (below_zero (digits_meant s)) (from_zero (digits_meant (b ∷ s)))
+    by_test true e = ap (λ t. cond t (below_zero (digits_meant s)) (from_zero (digits_meant (b ∷ s)))) (sym e)
+    by_test false e = ap (λ t. cond t (below_zero (digits_meant s)) (from_zero (digits_meant (b ∷ s)))) (sym e)
 
-  pub digits_fit : SFits w64 (pos n)
-  digits_fit = count_fits brief
+-- in the code's shape: the minus p taken off
+module _ (s : List ℕ) {p : List ℕ} (minus : p ≡ 45 ∷ []) where
+  tested : {t : Bool} → pointwise eqb (take (length p) s) p ≡ t → pointwise eqb (take 1 s) (45 ∷ []) ≡ t
+  tested e = ap (λ q. pointwise eqb (take (length q) s) q) (sym minus) ∙ e
 
-  pub minus_fits : SFits w64 (pos 0 -ℤ to_z w64 n)
-  minus_fits = law.minus_fits brief
+  module _ {d : List ℕ} (m : pointwise eqb (take (length p) s) p ≡ true) (rest : d ≡ drop (length p) s) where
+    minus_is : {r : Option ℕ} → ReadsDigits d r → below_zero r ≡ number_meant s
+    minus_is g =
+        ap below_zero (g.told ∙ ap digits_meant (rest ∙ ap (λ q. drop (length q) s) minus)) ∙ number_is s (tested m)
 
-  minus : back (pos 0 -ℤ to_z w64 n) ≡ neg_ℤ (pos n)
-  minus = minus_back brief
+    pub minus_malformed : ReadsDigits d None → None ≡ number_meant s
+    minus_malformed g = minus_is g
 
-module _ (s : List ℕ) (l : 1 ≤ length s) {r : Digits} where
-  module _ (m : get_or s 0 0 ≡ 45) (d : ReadsDigits (take (length s - 1) (drop 1 s)) r) where
-    minus_told : {r' : Digits} → r ≡ r' → some_then (digits_answer r') (λ n. some (neg_ℤ (pos n))) ≡ number_meant s
-    minus_told k =
-        ap (λ (o : Option ℕ). some_then o (λ n. some (neg_ℤ (pos n))))
-        (sym (ap digits_meant (sym (part_to_end s 1)) ∙ by_case digits_answer d.told k))
-        ∙ number_is s l true (eq-eqb (get_or s 0 0) 45 m)
+    pub minus_number : {n : ℕ} → ReadsDigits d (Some n) → Some (back (pos 0 -ℤ to_z w64 n)) ≡ number_meant s
+    minus_number {n} g = let few : n < 10 ^ 10 = g.small in ap Some (minus_back (omega arith)) ∙ minus_is g
 
-    pub minus_malformed : r ≡ Malformed → none ≡ number_meant s
-    minus_malformed k = minus_told k
+  module _ (m : pointwise eqb (take (length p) s) p ≡ false) where
+    bare_is : {r : Option ℕ} → ReadsDigits s r → from_zero r ≡ number_meant s
+    bare_is g = ap from_zero g.told ∙ number_is s (tested m)
 
-    pub minus_number : {n : ℕ} → r ≡ Got n → some (back (pos 0 -ℤ to_z w64 n)) ≡ number_meant s
-    minus_number {n} k = ap some (minus k d) ∙ minus_told k
+    pub bare_malformed : ReadsDigits s None → None ≡ number_meant s
+    bare_malformed g = bare_is g
 
-  module _ (m : get_or s 0 0 ≡ 45 → ⊥) (d : ReadsDigits s r) where
-    bare_told : {r' : Digits} → r ≡ r' → some_then (digits_answer r') (λ n. some (pos n)) ≡ number_meant s
-    bare_told k =
-        ap (λ (o : Option ℕ). some_then o (λ n. some (pos n))) (sym (by_case digits_answer d.told k))
-        ∙ number_is s l false (ne_eqb (get_or s 0 0) 45 m)
-
-    pub bare_malformed : r ≡ Malformed → none ≡ number_meant s
-    bare_malformed k = bare_told k
-
-    pub bare_number : {n : ℕ} → r ≡ Got n → some (to_z w64 n) ≡ number_meant s
-    bare_number {n} k = ap some (to_z_pos w64 n (brief k d)) ∙ bare_told k
+    pub bare_number : {n : ℕ} → ReadsDigits s (Some n) → Some (to_z w64 n) ≡ number_meant s
+    bare_number {n} g = let few : n < 10 ^ 10 = g.small in ap Some (to_z_pos w64 n (omega arith)) ∙ bare_is g

@@ -1,22 +1,38 @@
 // The job's word.
 ghost use Rattle.std.specs.Prelude.{◌≡◌};
-ghost use Rattle.parsing.specs.Word.{job_named};
-ghost use Rattle.parsing.specs.ParsingAnswers.{named_answer};
+ghost use Rattle.parsing.specs.Word.{job_named, numbers_on_a_line};
 
-use crate::Named;
-use check::same;
+#[derive(Clone, Copy, Debug, PartialEq, Eq)]
+pub enum Job {
+    Plain,
+    Ball,
+    Admit,
+}
 
-pub fn read(line: &[u8]) -> Named
-    ensures { named_answer result ≡ job_named line.now }
+impl Job {
+    // How many numbers stand on a reading line.
+    pub fn numbers(self) -> usize
+        ensures { result ≡ numbers_on_a_line self }
+    {
+        match self {
+            Job::Plain => 1,
+            Job::Ball => 2,
+            Job::Admit => 3,
+        }
+    }
+}
+
+#[tactic(auto, unfolding(crate::specs::Word::job_named))]
+pub fn read(line: &[u8]) -> Option<Job>
+    ensures { result ≡ job_named line.now }
 {
-    if same(line, b"plain") {
-        return Named::Plain;
+    if line == b"plain".as_slice() {
+        Some(Job::Plain)
+    } else if line == b"ball".as_slice() {
+        Some(Job::Ball)
+    } else if line == b"admit".as_slice() {
+        Some(Job::Admit)
+    } else {
+        None
     }
-    if same(line, b"ball") {
-        return Named::Ball;
-    }
-    if same(line, b"admit") {
-        return Named::Admit;
-    }
-    Named::Malformed
 }

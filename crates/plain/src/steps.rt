@@ -8,47 +8,46 @@ ghost use Rattle.rules.specs.Steps.{AtEveryScale, within_reach, plain_answer};
 ghost use Rattle.rules.specs.Plain.{plain_rule};
 
 use refusals::Refusal;
-use rules::PlainStep;
 
 // x, or refusal 11 where |x| is over the limit.
-fn keep(x: i64) -> PlainStep
+fn keep(x: i64) -> Result<i64, Refusal>
     ensures { plain_answer result ≡ within_reach plain_reach x }
 {
     if rounding::within(whole::magnitude(x), 0, 0) {
-        PlainStep::Value(x)
+        Ok(x)
     } else {
-        PlainStep::Refused(Refusal::OutOfReach)
+        Err(Refusal::OutOfReach)
     }
 }
 
-pub fn constant(c: i64) -> PlainStep
+pub fn constant(c: i64) -> Result<i64, Refusal>
     ensures { AtEveryScale plain_rule (Operation.constant c) (plain_answer result) }
 {
     keep(c)
 }
 
-pub fn negate(a: i64) -> PlainStep
+pub fn negate(a: i64) -> Result<i64, Refusal>
     requires { Allowed a }
     ensures { AtEveryScale plain_rule (Operation.negate a) (plain_answer result) }
 {
     keep(-a)
 }
 
-pub fn add(a: i64, b: i64) -> PlainStep
+pub fn add(a: i64, b: i64) -> Result<i64, Refusal>
     requires { Allowed a × Allowed b }
     ensures { AtEveryScale plain_rule (Operation.add a b) (plain_answer result) }
 {
     keep(a + b)
 }
 
-pub fn subtract(a: i64, b: i64) -> PlainStep
+pub fn subtract(a: i64, b: i64) -> Result<i64, Refusal>
     requires { Allowed a × Allowed b }
     ensures { AtEveryScale plain_rule (Operation.subtract a b) (plain_answer result) }
 {
     keep(a - b)
 }
 
-pub fn multiply(scale: u32, a: i64, b: i64) -> PlainStep
+pub fn multiply(scale: u32, a: i64, b: i64) -> Result<i64, Refusal>
     requires { (scale ≤ top_scale) × Allowed a × Allowed b }
     ensures { plain_answer result ≡ plain_rule scale (Operation.multiply a b) }
 {
@@ -56,12 +55,12 @@ pub fn multiply(scale: u32, a: i64, b: i64) -> PlainStep
 }
 
 // The floor of T/a + 1/2, or refusal 17 at 0.
-pub fn reciprocal(scale: u32, a: i64) -> PlainStep
+pub fn reciprocal(scale: u32, a: i64) -> Result<i64, Refusal>
     requires { (scale ≤ top_reciprocal_scale) × Allowed a }
     ensures { plain_answer result ≡ plain_rule scale (Operation.reciprocal a) }
 {
     if whole::magnitude(a) == 0 {
-        return PlainStep::Refused(Refusal::MayBeZero);
+        return Err(Refusal::MayBeZero);
     }
     keep(reciprocals::inverse(scale, a).centre)
 }

@@ -18,6 +18,5 @@ pub fn margins_plain(
         (lent plain_kind work.old output.old)
         (lent plain_kind work.new output.new) result }
 {
-    let r = plain_run::run(bytes, readings, work, output);
-    replied(r)
+    replied(plain_run::run(bytes, readings, work, output))
 }

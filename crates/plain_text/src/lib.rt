@@ -1,4 +1,5 @@
 // The plain job, told.
+// The run, the first line and the lines of outputs are shared; what is here is this job's own lists.
 #![tactic(auto)]
 
 ghost use Rattle.std.specs.Prelude.{◌≤◌, length};
@@ -17,8 +18,8 @@ pub fn answer(formula: &[u8], readings: &[i64], out: &mut [u8]) -> usize
     ensures { Wrote (kind_text plain_kind plain_fields formula.now readings.now)
         0 out.old out.new result }
 {
-    let mut work: [i64; 528] = [0; 528];
-    let mut output: [i64; 16] = [0; 16];
+    let mut work = [0; 528];
+    let mut output = [0; 16];
     let reply = run(formula, readings, &mut work, &mut output);
     let at = put_headline(reply, out);
     put_plain(&output, count_of(reply), out, at)

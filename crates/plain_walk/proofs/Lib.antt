@@ -1,2 +1,2 @@
--- The laws of the walk on plain values.
-pub mod Turns
+-- The laws of plain values in a lent list.
+pub mod Lent

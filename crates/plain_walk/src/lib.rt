@@ -1,71 +1,90 @@
-// The walk on plain values.
+// What a caller brings and lends for a plain run: bare readings, and a list each to work in and for the outputs.
 #![tactic(auto)]
 
-ghost use Rattle.rules.specs.Steps.{plain_answer};
-ghost use Rattle.formulas.specs.Kinds.{plain_kind};
-ghost use Rattle.walks.specs.Walks.{Named, Operand, Steppable, Stepped, Walkable, Walks};
+ghost use Rattle.std.specs.Prelude.{◌≡◌, ◌<◌, ℕ};
+ghost use Rattle.formulas.specs.Kinds.{plain_kind, Stands};
+ghost use Rattle.formulas.proofs.Lawful.{plain_lawful};
 
-use bits::Cursor;
-use formulas::{Header, Instruction};
-use packed::loaded::load;
-use packed::walking::decode_ahead;
+use formulas::Instruction;
 use plain::steps;
-use rules::PlainStep;
-use walks::Walked;
+use readings::GivenValues;
+use refusals::{Refusal, Refused};
+use walks::Job;
 
-// The value that an operand names, of the first `made`.
-fn value_at(values: &[i64], i: usize, made: usize) -> i64
-    requires { Named plain_kind made i values.now }
-    ensures { Operand plain_kind made i values.now result }
-{
-    values[i]
+#[derive(Drop)]
+pub struct PlainJob<'g, 'w, 'o> {
+    pub readings: &'g [i64],
+    pub work: &'w mut [i64],
+    pub output: &'o mut [i64],
 }
 
-// One instruction on the first `made` values.
-fn step(scale: u32, i: Instruction, values: &[i64], made: usize) -> PlainStep
-    requires { Steppable plain_kind scale i made values.now }
-    ensures { Stepped plain_kind scale i made values.now (plain_answer result) }
-{
-    match i {
-        Instruction::Constant(c) => steps::constant(c),
-        Instruction::Negate(a) => steps::negate(value_at(values, a, made)),
-        Instruction::Add(a, b) => steps::add(value_at(values, a, made), value_at(values, b, made)),
-        Instruction::Subtract(a, b) => steps::subtract(
-            value_at(values, a, made),
-            value_at(values, b, made),
-        ),
-        Instruction::Multiply(a, b) => steps::multiply(
-            scale,
-            value_at(values, a, made),
-            value_at(values, b, made),
-        ),
-        Instruction::Coefficient(c, _) => steps::constant(c),
-        Instruction::Reciprocal(a) => steps::reciprocal(scale, value_at(values, a, made)),
+impl PlainJob<'_, '_, '_> {
+    // A value of the work lists.
+    fn at(&self, i: usize) -> i64
+        requires { i < plain_kind.room (self.now.work.now) }
+        ensures { Stands plain_kind i (self.now.work.now) result }
+    {
+        self.work[i]
     }
 }
 
-// All instructions of a checked formula, each value behind those before it.
-pub fn walk(s: &[u8], h: Header, work: &mut [i64]) -> Walked
-    requires { Walkable plain_kind s.now h work.old }
-    ensures { Walks plain_kind s.now h work.old work.new result }
-{
-    let mut at = Cursor { at: 32 };
-    let mut k = 0;
-    loop {
-        if k == h.instructions {
-            break Walked::Finished(at);
-        }
-        let made = h.inputs + k;
-        let d = decode_ahead(s, load(s, at));
-        let i = d.instruction;
-        let next = d.next;
-        match step(h.scale, i, work, made) {
-            PlainStep::Refused(r) => break Walked::Stopped(r, k),
-            PlainStep::Value(v) => {
-                work[made] = v;
-                at = next;
-                k = k + 1;
-            }
+impl Job for PlainJob<'_, '_, '_> {
+    type Value = i64;
+
+    ghost kind = { plain_kind };
+
+    ghost meant = { λ x. x };
+
+    ghost given = { λ j. j.readings.now };
+
+    ghost work = { λ j. j.work.now };
+
+    ghost output = { λ j. j.output.now };
+
+    ghost Names = { ℕ × ℕ };
+
+    ghost names = { λ j. (j.work.ghost_name, j.output.ghost_name) };
+
+    fn test(&self, m: usize) -> Result<(), Refused> {
+        readings::test(
+            &GivenValues {
+                values: self.readings,
+            },
+            m,
+        )
+    }
+
+    fn read(&self, i: usize) -> i64 {
+        self.readings[i]
+    }
+
+    fn room(&self) -> usize {
+        self.work.len()
+    }
+
+    fn put(&mut self, i: usize, v: i64) {
+        self.work[i] = v;
+    }
+
+    fn step(&self, scale: u32, i: Instruction, made: usize) -> Result<i64, Refusal> {
+        match i {
+            Instruction::Constant(c) => steps::constant(c),
+            Instruction::Negate(a) => steps::negate(self.at(a)),
+            Instruction::Add(a, b) => steps::add(self.at(a), self.at(b)),
+            Instruction::Subtract(a, b) => steps::subtract(self.at(a), self.at(b)),
+            Instruction::Multiply(a, b) => steps::multiply(scale, self.at(a), self.at(b)),
+            Instruction::Coefficient(c, _) => steps::constant(c),
+            Instruction::Reciprocal(a) => steps::reciprocal(scale, self.at(a)),
         }
     }
+
+    fn output_room(&self) -> usize {
+        self.output.len()
+    }
+
+    fn give(&mut self, k: usize, o: usize) {
+        self.output[k] = self.work[o];
+    }
+
+    ghost lawful = { plain_lawful };
 }

@@ -105,12 +105,10 @@ module _ {old now : List ℕ} {at q : ℕ} where
 
   -- a number as the machine holds it, by the test of its sign, and its size m
   module _ (z : ℤ) {m : ℕ} (f : SFits w64 z) (size : m ≡ nat_abs (back z)) where
-    pub wrote_minus : {mid : List ℕ} {p : ℕ} → lt_z (back z) (pos 0) ≡ true → Wrote (45 ∷ []) at old mid p
-        → Wrote (decimal m) p mid now q → Wrote (signed_decimal z) at old now q
-    wrote_minus t w v =
+    pub wrote_minus : lt_z (back z) (pos 0) ≡ true → Wrote (45 ∷ decimal m) at old now q → Wrote (signed_decimal z) at old now q
+    wrote_minus t w =
         let e = to_z-of_z w64 z f in
-        wrote_same (ap (λ (k : ℕ). 45 ∷ decimal k) (size ∙ ap nat_abs e) ∙ sym (signed_below z (rw e at t)))
-        (wrote_then w v)
+        wrote_same (ap (λ (k : ℕ). 45 ∷ decimal k) (size ∙ ap nat_abs e) ∙ sym (signed_below z (rw e at t))) w
 
     pub wrote_bare : lt_z (back z) (pos 0) ≡ false → Wrote (decimal m) at old now q
         → Wrote (signed_decimal z) at old now q

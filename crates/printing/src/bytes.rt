@@ -14,11 +14,7 @@ pub fn put_word(w: &[u8], out: &mut [u8], at: usize) -> usize
     requires { at + length w.now ≤ length out.old }
     ensures { Wrote w.now at out.old out.new result }
 {
-    let mut next = at;
-    let mut i = 0;
-    while i < w.len() {
-        next = put(w[i], out, next);
-        i = i + 1;
-    }
+    let next = at + w.len();
+    out[at..next].copy_from_slice(w);
     next
 }

@@ -4,7 +4,6 @@ ghost use Rattle.printing.specs.Decimal.{decimal, signed_decimal};
 ghost use Rattle.lists.specs.Written.{Wrote};
 
 use crate::bytes::put;
-use whole::magnitude;
 
 pub fn put_number(n: u64, out: &mut [u8], at: usize) -> usize
     requires { at + 20 ≤ length out.old }
@@ -22,10 +21,10 @@ fn put_signed(x: i64, out: &mut [u8], at: usize) -> usize
     ensures { Wrote (signed_decimal x) at out.old out.new result }
 {
     if x < 0 {
-        let next = put(b'-', out, at);
-        return put_number(magnitude(x), out, next);
+        put_marked(b'-', x.unsigned_abs(), out, at)
+    } else {
+        put_number(x.unsigned_abs(), out, at)
     }
-    put_number(magnitude(x), out, at)
 }
 
 // A mark and a number right behind it.
@@ -37,6 +36,7 @@ pub fn put_marked(mark: u8, n: u64, out: &mut [u8], at: usize) -> usize
     put_number(n, out, next)
 }
 
+// As `put_marked`, of a number that may be below zero: a trait for both kinds would hold these two bodies.
 pub fn put_marked_signed(mark: u8, x: i64, out: &mut [u8], at: usize) -> usize
     requires { at + 22 ≤ length out.old }
     ensures { Wrote (mark ∷ signed_decimal x) at out.old out.new result }

@@ -4,6 +4,8 @@ use mathlib.Core.List.{List, [], ◌++◌, append_assoc, append-nil}
 use Prim.Native.Nat.{ℕ, ◌+◌, ◌*◌, ◌^◌, ◌≤◌, ◌<◌}
 use native.Mathlib.Omega.{arith}
 use lib.IntN.{ℤ, pos, nat_abs}
+use lib.ListN.{length}
+use mathlib.Core.Bool.{Bool, true}
 use mir.Syntax.{w64}
 use mir.Val.{SFits}
 use Rattle.whole.proofs.Machine.{back}
@@ -13,11 +15,15 @@ use Rattle.writing.specs.Pending.{MayPut, Puts}
 use Rattle.writing.proofs.Bits.{to_bits_join}
 use Rattle.packed.specs.Items.{scale, inputs}
 use Rattle.packed.proofs.WellFormed.{in_range}
-use Rattle.packing.specs.Slots.{encoded, header_slots}
-use Rattle.packing.proofs.Packs.{tested_all, is_natural}
+use Rattle.packing.specs.declared.Handed.TheInside.{Inside}
+use Rattle.packing.specs.Lent.{lent}
+use Rattle.packing.specs.Raw.{RawFormula, count, number_of, instructions_of}
+use Rattle.packing.specs.Slots.{encoded, header_of}
+use Rattle.packing.proofs.Packs.{tested_all, is_natural, counted}
+use Rattle.fitting.proofs.Programs.{program_long}
 use Rattle.putting.specs.Putting.{fresh, HeaderPuttable, PutsHeader}
 use Rattle.putting.proofs.Puttings.{slots_put}
-use Rattle.putting.proofs.Instructions.{as_kept, natural_kept}
+use Rattle.putting.proofs.Instructions.{as_kept}
 
 -- a further field below what was joined
 join_on : (c w x n : ℕ) (rest : List ℕ) → n < 2 ^ w
@@ -33,85 +39,83 @@ five_fields F m l n fF fm fl fn =
     ∙ join_on 27 5 (((1 * 32 + F) * 32 + m) * 1024 + l) n [] fn ∙ append-nil _
 
 -- the header's numbers
-record Numbers (F m : ℤ) (l n : ℕ) : Type 0 where
-  scale_natural : pos (nat_abs F) ≡ F
-  scale_low : encoded F ≤ 30
-  inputs_natural : pos (nat_abs m) ≡ m
-  inputs_low : encoded m ≤ 16
-  instructions_low : l ≤ 512
-  outputs_low : n ≤ 16
+pub record Numbers (g : RawFormula) : Type 0 where
+  pub scale_natural : pos (nat_abs g.scale) ≡ g.scale
+  pub scale_low : encoded g.scale ≤ 30
+  pub inputs_natural : pos (nat_abs g.inputs) ≡ g.inputs
+  pub inputs_low : encoded g.inputs ≤ 16
+  pub long : g.as_long ≡ true
+  pub instructions_low : length g.program ≤ 512
+  pub outputs_low : length g.results ≤ 16
 
-numbers : (F m : ℤ) (l n : ℕ) {out : List ℕ} → HeaderPuttable F m l n out → Numbers F m l n
-numbers F m l n p =
-    let a = tested_all (header_slots F m (pos l) n) p.passed in
-    let f = is_natural scale F a.1.0 in
-    let i = is_natural inputs m a.1.1.0 in
+pub numbers : {g : RawFormula} {out : List ℕ} → HeaderPuttable g out → Numbers g
+numbers {g} p =
+    let a = tested_all (header_of g) p.passed in
+    let f = is_natural scale g.scale a.1.0 in
+    let i = is_natural inputs g.inputs a.1.1.0 in
+    let l = counted g a.1.1.1.0 in
     record {
       scale_natural = f.is;
-      scale_low = subst (λ (z : ℤ). encoded z ≤ 30) f.is (omega (arith, in_range 0 31 (nat_abs F) f.may));
+      scale_low = subst (λ (z : ℤ). encoded z ≤ 30) f.is (omega (arith, in_range 0 31 (nat_abs g.scale) f.may));
       inputs_natural = i.is;
-      inputs_low = subst (λ (z : ℤ). encoded z ≤ 16) i.is (omega (arith, in_range 0 17 (nat_abs m) i.may));
-      instructions_low = omega (arith, in_range 0 513 l a.1.1.1.0);
-      outputs_low = omega (arith, in_range 1 17 n a.1.1.1.1.0);
+      inputs_low = subst (λ (z : ℤ). encoded z ≤ 16) i.is (omega (arith, in_range 0 17 (nat_abs g.inputs) i.may));
+      long = l.0;
+      instructions_low = omega (arith, in_range 0 513 (length g.program) l.1);
+      outputs_low = omega (arith, in_range 1 17 (length g.results) a.1.1.1.1.0);
     }
 
-module _ (F m : ℤ) (l n : ℕ) {out : List ℕ} (p : HeaderPuttable F m l n out) (fF : SFits w64 F) (fm : SFits w64 m) where
-  are : Numbers F m l n
-  are = numbers F m l n p
+-- as the code holds what is handed over
+module _ (h : Inside) {given : RawFormula} (holds : lent h ≡ given) {out : List ℕ} (p : HeaderPuttable given out)
+    (fF : SFits w64 h.scale) (fm : SFits w64 h.inputs) where
+  asked : HeaderPuttable (lent h) out
+  asked = subst (λ (g : RawFormula). HeaderPuttable g out) (sym holds) p
 
-  pub scale_natural : back F ≡ pos (nat_abs (back F))
-  scale_natural = natural_kept fF are.scale_natural
+  are : Numbers (lent h)
+  are = numbers asked
 
-  pub inputs_natural : back m ≡ pos (nat_abs (back m))
-  inputs_natural = natural_kept fm are.inputs_natural
+  instructions_are : length (instructions_of h.codes.now h.firsts.now h.seconds.now) ≡ length h.codes.now
+  instructions_are = program_long h refl are.long
 
-  module _ {x : ℕ} (first : x ≡ encoded (back F)) where
-    scale_is : x ≡ encoded F
+  module _ {x : ℕ} (first : x ≡ encoded (back h.scale)) where
+    scale_is : x ≡ encoded h.scale
     scale_is = as_kept fF first
 
-    pub scale_near : 32 + x < 2 ^ 64
-    scale_near = omega (arith, scale_is, are.scale_low)
-
-    pub scale_moved : (32 + x) * 32 < 2 ^ 64
-    scale_moved = omega (arith, scale_is, are.scale_low)
-
-    module _ {y : ℕ} (second : y ≡ encoded (back m)) where
-      inputs_are : y ≡ encoded m
+    module _ {y : ℕ} (second : y ≡ encoded (back h.inputs)) where
+      inputs_are : y ≡ encoded h.inputs
       inputs_are = as_kept fm second
 
-      pub inputs_near : (32 + x) * 32 + y < 2 ^ 64
-      inputs_near = omega (arith, scale_is, are.scale_low, inputs_are, are.inputs_low)
+      abbrev number : ℕ
+      number = (((32 + x) * 32 + y) * 1024 + length h.codes.now) * 32 + length h.outputs.now
 
-      pub inputs_moved : ((32 + x) * 32 + y) * 1024 < 2 ^ 64
-      inputs_moved = omega (arith, scale_is, are.scale_low, inputs_are, are.inputs_low)
+      pub header_near : number < 2 ^ 32
+      header_near =
+          omega (
+            arith,
+            scale_is,
+            are.scale_low,
+            inputs_are,
+            are.inputs_low,
+            instructions_are,
+            are.instructions_low,
+            are.outputs_low,
+          )
 
-      pub instructions_near : ((32 + x) * 32 + y) * 1024 + l < 2 ^ 64
-      instructions_near = omega (arith, scale_is, are.scale_low, inputs_are, are.inputs_low, are.instructions_low)
-
-      pub instructions_moved : (((32 + x) * 32 + y) * 1024 + l) * 32 < 2 ^ 64
-      instructions_moved = omega (arith, scale_is, are.scale_low, inputs_are, are.inputs_low, are.instructions_low)
-
-      pub outputs_near : (((32 + x) * 32 + y) * 1024 + l) * 32 + n < 2 ^ 64
-      outputs_near =
-          omega (arith, scale_is, are.scale_low, inputs_are, are.inputs_low, are.instructions_low, are.outputs_low)
-
-      small : (((32 + x) * 32 + y) * 1024 + l) * 32 + n < 2 ^ 32
-      small = omega (arith, scale_is, are.scale_low, inputs_are, are.inputs_low, are.instructions_low, are.outputs_low)
-
-      pub header_room : MayPut fresh 32 ((((32 + x) * 32 + y) * 1024 + l) * 32 + n) out
+      pub header_room : MayPut fresh 32 number out
       header_room =
-          record { narrow = omega arith; fits = small; few = omega arith; room = omega (arith, p.room) }
+          record { narrow = omega arith; fits = header_near; few = omega arith; room = omega (arith, p.room) }
 
-      pub header_put : {new : List ℕ} {r : Writer} → Puts fresh 32 ((((32 + x) * 32 + y) * 1024 + l) * 32 + n) out new r
-          → PutsHeader F m l n out new r
-      header_put q =
-          record {
+      pub header_put : {new : List ℕ} {r : Writer} → Puts fresh 32 number out new r → PutsHeader given out new r
+      header_put {new} {r} q =
+          subst (λ (g : RawFormula). PutsHeader g out new r) holds
+          (record {
             puts =
-                slots_put (header_slots F m (pos l) n) 32
-                (five_fields (encoded F) (encoded m) l n (omega (arith, are.scale_low)) (omega (arith, are.inputs_low))
-                (omega (arith, are.instructions_low)) (omega (arith, are.outputs_low)) ∙ ap (to_bits 32) (sym same))
+                slots_put (header_of (lent h)) 32
+                (ap (λ (z : ℤ). to_bits 7 1 ++ (to_bits 5 (encoded h.scale) ++ (to_bits 5 (encoded h.inputs) ++ (to_bits 10 (encoded z) ++ (to_bits 5 (length h.outputs.now) ++ []))))) count_is
+                ∙ five_fields (encoded h.scale) (encoded h.inputs) (length h.codes.now) (length h.outputs.now) (omega (arith, are.scale_low)) (omega (arith, are.inputs_low))
+                (omega (arith, instructions_are, are.instructions_low)) (omega (arith, are.outputs_low))
+                ∙ (λ i. to_bits 32 ((((32 + sym scale_is i) * 32 + sym inputs_are i) * 1024 + length h.codes.now) * 32 + length h.outputs.now)))
                 refl header_room q;
-          }
+          })
         where
-          same : (((32 + x) * 32 + y) * 1024 + l) * 32 + n ≡ (((1 * 32 + encoded F) * 32 + encoded m) * 1024 + l) * 32 + n
-          same = omega (arith, scale_is, inputs_are)
+          count_is : count (lent h) ≡ pos (length h.codes.now)
+          count_is = ap (λ (t : Bool). number_of t (length (instructions_of h.codes.now h.firsts.now h.seconds.now))) are.long ∙ ap pos instructions_are

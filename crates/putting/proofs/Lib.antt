@@ -1,8 +1,6 @@
 -- The laws of putting fields, one subject a file.
-pub mod Encodings
 pub mod Puttings
 pub mod Instructions
-pub mod Coefficients
 pub mod Loops
 pub mod Turns
 pub mod Headers

@@ -1,23 +1,25 @@
 -- The packer's three ways to end: a refusal of the tests, no room, the bytes. Assumes nothing.
-use mathlib.Core.Path.{◌≡◌, sym, ◌∙◌, ap, subst, subst₂}
+use mathlib.Core.Path.{◌≡◌, sym, ◌∙◌, ap, subst}
 use mathlib.Core.List.{List, ◌++◌}
-use Prim.Native.Nat.{ℕ, ◌+◌, ◌^◌, ◌≤◌, ◌<◌}
+use Prim.Native.Nat.{ℕ, ◌≤◌, ◌<◌}
 use native.Mathlib.Nat.{zero-add}
 use native.Mathlib.Omega.{arith}
 use borrow.Author.Tests.{le-leb, lt-leb}
-use lib.IntN.{ℤ}
 use lib.ListN.{length, drop}
+use Rattle.std.specs.declared.result.Result.TheVariants.{Ok, Err}
+use Rattle.refusals.specs.Places.{because}
+use Rattle.lists.specs.Over.{over}
+use Rattle.refusals.specs.declared.Refused.{Refused}
+use Rattle.whole.proofs.Machine.{back}
+use lib.IntN.{ℤ}
 use mir.Syntax.{w64}
 use mir.Val.{SFits}
 use mir.ValLaws.{to_z-of_z}
-use Rattle.whole.proofs.Machine.{back}
-use Rattle.lists.specs.Over.{over}
 use Rattle.refusals.specs.declared.Refusal.{Refusal}
 use Rattle.refusals.specs.declared.Refusal.TheVariants as refusal
-use Rattle.refusals.specs.declared.Reply.TheVariants as reply
 use Rattle.refusals.specs.Answer.{Answer, value, refused, refuse, then}
 use Rattle.refusals.specs.Said.{answered}
-use Rattle.refusals.proofs.Answers.{no_value, refused_same, first_of, same_value}
+use Rattle.refusals.proofs.Answers.{Before, no_value, refused_same, first_of, same_value}
 use Rattle.writing.specs.Bytes.{whole_bytes}
 use Rattle.packing.specs.Raw.{RawFormula, Parts, handed, formula_of}
 use Rattle.packing.specs.Slots.{Slot, raw_slots, slots_width, packed_bytes}
@@ -25,10 +27,8 @@ use Rattle.packing.specs.Packing.{slots_tested, pack, pack_into}
 use Rattle.packing.specs.PackAnswers.{packed_said, packed_front, Packs}
 use Rattle.packing.proofs.Packs.{tested_all, fit_accepted, pack_all}
 use Rattle.packing.proofs.Lengths.{packed_long}
-use Rattle.fitting.specs.declared.Size.{Size}
-use Rattle.fitting.specs.declared.Size.TheVariants.{Bits, Refused}
 use Rattle.fitting.specs.Sizes.{sized, FormulaSizes}
-use Rattle.putting.specs.Writing.{Writable, WritesFormula}
+use Rattle.putting.specs.Writing.{WritesFormula}
 
 -- what the tests said
 refused_tests : (ss : List Slot) {n : ℕ} → sized ss ≡ refused n → slots_tested ss ≡ refused n
@@ -63,47 +63,40 @@ module _ (given : RawFormula) where
     unfolding pack_into
     into_room room l = rw (packs, le-leb (length (packed_bytes (formula_of given))) room (omega (arith, size_is)))
 
-module _ (F m : ℤ) (p : Parts) {s₀ : Size} (fF : SFits w64 F) (fm : SFits w64 m)
-    (z : FormulaSizes (handed (back F) (back m) p) s₀) where
-  given_is : handed (back F) (back m) p ≡ handed F m p
-  given_is = λ i. handed (to_z-of_z w64 F fF i) (to_z-of_z w64 m fm i) p
+-- the numbers as the code keeps them are those that were handed over
+module _ (F m : ℤ) (p : Parts) (fF : SFits w64 F) (fm : SFits w64 m) where
+  abbrev given : RawFormula
+  given = handed F m p
 
-  sizes : {s : Size} → s₀ ≡ s → FormulaSizes (handed F m p) s
-  sizes e = subst₂ FormulaSizes given_is e z
+  abbrev held : RawFormula
+  held = handed (back F) (back m) p
 
-  pub tests_refuse : {r : Refusal} (old : List ℕ) → s₀ ≡ Refused r → Packs (handed F m p) old old (reply.Refused r 0)
-  tests_refuse {r} old e =
-      let q = refused_pack (handed F m p) (length old) (refused_tests (raw_slots (handed F m p)) (sym (sizes e).is.answers)) in
+  same : held ≡ given
+  same = λ i. handed (to_z-of_z w64 F fF i) (to_z-of_z w64 m fm i) p
+
+  pub tests_refuse : {r : Refusal} (old : List ℕ) → FormulaSizes held (Err r) → Packs given old old (Err (because r 0))
+  tests_refuse {r} old z =
+      let q = refused_pack given (length old) (refused_tests (raw_slots given) (sym (subst (λ g. FormulaSizes g (Err r)) same z).is.answers)) in
       record { says = sym (ap packed_said q); writes = sym (ap (λ a. over (packed_front a) old) q) }
 
-  module _ {n : ℕ} (e : s₀ ≡ Bits n) where
-    pub bits_few : n ≤ 2 ^ 20
-    bits_few = (sizes e).few
+  module _ {n : ℕ} (z : FormulaSizes held (Ok n)) where
+    size : Before (slots_tested (raw_slots given)) (λ u. value (slots_width (raw_slots given))) n
+    size =
+        first_of (slots_tested (raw_slots given)) (λ u. value (slots_width (raw_slots given)))
+        (sym (subst (λ g. FormulaSizes g (Ok n)) same z).is.answers)
 
-    accepted : slots_tested (raw_slots (handed F m p)) ≡ value tt
-    accepted = (first_of (slots_tested (raw_slots (handed F m p))) (λ u. value (slots_width (raw_slots (handed F m p)))) (sym (sizes e).is.answers)).was
+    pub room_refuses : (old : List ℕ) → length old < whole_bytes n → {e : Refused} → e ≡ because refusal.NoRoom 0
+        → Packs given old old (Err e)
+    room_refuses old l e =
+        let r = into_long given size.was (length old) (omega (arith, same_value size.then_was)) in
+        rw e (record { says = sym (ap packed_said r); writes = sym (ap (λ a. over (packed_front a) old) r) })
 
-    bits_are : slots_width (raw_slots (handed F m p)) ≡ n
-    bits_are = same_value (first_of (slots_tested (raw_slots (handed F m p))) (λ u. value (slots_width (raw_slots (handed F m p)))) (sym (sizes e).is.answers)).then_was
-
-    pub room_refuses : (old : List ℕ) {k : ℕ} → k ≡ whole_bytes n → length old < k
-        → Packs (handed F m p) old old (reply.Refused refusal.NoRoom 0)
-    room_refuses old q l =
-        let r = into_long (handed F m p) accepted (length old) (omega (arith, bits_are)) in
-        record { says = sym (ap packed_said r); writes = sym (ap (λ a. over (packed_front a) old) r) }
-
-    module _ {old : List ℕ} {j : ℕ} (counted : j ≡ whole_bytes n) (l : j ≤ length old) where
-      pub formula_may : Writable (handed (back F) (back m) p) old
-      formula_may =
-          subst (λ (g : RawFormula). Writable g old) (sym given_is)
-          (record { passed = accepted; room = omega (arith, bits_are) })
-
-      pub formula_packed : {new : List ℕ} {k : ℕ} → WritesFormula (handed (back F) (back m) p) old new k
-          → Packs (handed F m p) old new (reply.Done k)
+    module _ {old : List ℕ} (l : whole_bytes n ≤ length old) where
+      pub formula_packed : {new : List ℕ} {k : ℕ} → WritesFormula held old new k → Packs given old new (Ok k)
       formula_packed {new} {k} w =
-          let q = into_room (handed F m p) accepted (length old) (omega (arith, bits_are)) in
-          let v = (subst (λ (g : RawFormula). WritesFormula g old new k) given_is w).wrote in
-          let bytes = packed_bytes (formula_of (handed F m p)) in
+          let q = into_room given size.was (length old) (omega (arith, same_value size.then_was)) in
+          let v = (subst (λ (g : RawFormula). WritesFormula g old new k) same w).wrote in
+          let bytes = packed_bytes (formula_of given) in
           record {
             says = ap answered (v.after ∙ zero-add (length bytes)) ∙ sym (ap packed_said q);
             writes =

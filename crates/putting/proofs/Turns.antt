@@ -1,6 +1,5 @@
 -- A turn of putting instructions and of putting outputs, in the code's shape. Assumes nothing.
 use mathlib.Core.Path.{◌≡◌, refl, sym, ◌∙◌, ap, ap₂, subst}
-use mathlib.Core.Bool.{true}
 use mathlib.Core.List.{List, [], ◌∷◌, ◌++◌, append-nil}
 use Prim.Native.Nat.{ℕ, zero, suc, ◌+◌, ◌^◌, ◌≤◌, ◌<◌}
 use native.Mathlib.Omega.{arith}
@@ -14,17 +13,18 @@ use Rattle.bits.specs.Bits.{to_bits}
 use Rattle.writing.specs.declared.Writer.{Writer}
 use Rattle.writing.specs.Pending.{MayPut, Puts}
 use Rattle.packed.specs.Items.{operand}
-use Rattle.packing.specs.Raw.{RawInstruction, raw, instructions_of}
+use Rattle.packing.specs.declared.Handed.TheInside.{Inside}
+use Rattle.packing.specs.Lent.{lent}
+use Rattle.packing.specs.Raw.{RawInstruction, RawFormula, raw}
 use Rattle.packing.specs.Slots.{Slot, slot, encoded, instruction_slots, output_slots, several_slots, program_slots}
 use Rattle.packing.specs.Slots.{slots_bits, slots_width}
-use Rattle.packing.specs.Packing.{fits}
-use Rattle.packing.proofs.Packs.{tested_all, is_natural, below}
+use Rattle.packing.proofs.Packs.{tested_all}
 use Rattle.packing.proofs.Lengths.{width_append}
-use Rattle.fitting.proofs.Programs.{length_instructions_of, no_instruction, instruction_at, read_back}
+use Rattle.fitting.proofs.Programs.{same_long, program_long, no_instruction, instruction_at, read_back}
 use Rattle.putting.specs.Putting.{Written, PutsSlots, InstructionPuttable, PutsInstruction, ProgramPuttable, PutsProgram}
 use Rattle.putting.specs.Putting.{ResultsPuttable, PutsResults}
 use Rattle.putting.proofs.Puttings.{slots_bits_append, slots_put}
-use Rattle.putting.proofs.Instructions.{low_operand}
+use Rattle.putting.proofs.Instructions.{Named, named}
 use Rattle.putting.proofs.Loops.{Putting, putting_none, putting_asks, putting_more, putting_ends}
 
 -- ---- the same bits, whatever values are made
@@ -76,53 +76,47 @@ results_same u v j (o ∷ os) =
 
 -- ---- instructions
 
-pub record ProgramPutting (cs fs ss : List ℤ) (w₀ : Writer) (out₀ : List ℕ) (k : ℕ) (w : Writer) (out : List ℕ) : Type 0 where
-  pub inside : k ≤ length cs
-  pub asked : ProgramPuttable cs fs ss w₀ out₀
-  pub putting : Putting (instruction_slots asked.scale) asked.makes (instructions_of cs fs ss) w₀ out₀ k w out
+pub record ProgramPutting (given : RawFormula) (w₀ : Writer) (out₀ : List ℕ) (k : ℕ) (w : Writer) (out : List ℕ) : Type 0 where
+  pub asked : ProgramPuttable given w₀ out₀
+  pub putting : Putting (instruction_slots asked.scale) asked.makes given.program w₀ out₀ k w out
 
-module _ {cs fs ss : List ℤ} {w₀ : Writer} {out₀ : List ℕ} where
-  pub program_starts : ProgramPuttable cs fs ss w₀ out₀ → ProgramPutting cs fs ss w₀ out₀ 0 w₀ out₀
-  program_starts p =
+pub program_starts : {given : RawFormula} {w : Writer} {out : List ℕ} → ProgramPuttable given w out → ProgramPutting given w out 0 w out
+program_starts {given} p = record { asked = p; putting = putting_none (instruction_slots p.scale) p.makes given.program p.puttable }
+
+-- as the code holds what is handed over
+module _ (h : Inside) {given : RawFormula} (holds : lent h ≡ given) {w₀ w : Writer} {out₀ out : List ℕ} {k : ℕ}
+    (g : ProgramPutting given w₀ out₀ k w out) where
+  pub program_done : length h.codes.now ≤ k → PutsProgram given w₀ out₀ out w
+  program_done l =
       record {
-        inside = omega arith;
-        asked = p;
-        putting = putting_none (instruction_slots p.scale) p.makes (instructions_of cs fs ss) p.puttable;
+        puts =
+            λ F m.
+            puts_same (program_same g.asked.scale F g.asked.makes m given.program)
+            (putting_ends (instruction_slots g.asked.scale) g.asked.makes given.program g.putting
+            (omega (arith, program_long h holds g.asked.as_long)));
       }
 
-  module _ {k : ℕ} {w : Writer} {out : List ℕ} (g : ProgramPutting cs fs ss w₀ out₀ k w out) where
-    pub program_long : length out ≡ length out₀
-    program_long = g.putting.as_long
+  module _ (l : k < length h.codes.now) where
+    within : k < length given.program
+    within = omega (arith, program_long h holds g.asked.as_long)
 
-    pub program_done : length cs ≤ k → PutsProgram cs fs ss w₀ out₀ out w
-    program_done l =
-        record {
-          puts =
-              λ F m.
-              puts_same (program_same g.asked.scale F g.asked.makes m (instructions_of cs fs ss))
-              (putting_ends (instruction_slots g.asked.scale) g.asked.makes (instructions_of cs fs ss) g.putting
-              (omega (arith, length_instructions_of cs fs ss g.asked.as_firsts g.asked.as_seconds)));
-        }
+    pub lists_inside : (k < length h.firsts.now) × (k < length h.seconds.now)
+    lists_inside =
+        let s = same_long h holds g.asked.as_long in
+        (omega (arith, s.0), omega (arith, s.1))
 
-    pub firsts_inside : k < length cs → k < length fs
-    firsts_inside l = omega (arith, g.asked.as_firsts)
+    module _ (sc : mag (get_or h.codes.now k (pos 0)) < 2 ^ 63) (sf : mag (get_or h.firsts.now k (pos 0)) < 2 ^ 63)
+        (st : mag (get_or h.seconds.now k (pos 0)) < 2 ^ 63) where
+      abbrev here : RawInstruction
+      here = raw (back (get_or h.codes.now k (pos 0))) (back (get_or h.firsts.now k (pos 0))) (back (get_or h.seconds.now k (pos 0)))
 
-    pub seconds_inside : k < length cs → k < length ss
-    seconds_inside l = omega (arith, g.asked.as_seconds)
-
-    module _ (l : k < length cs) (sc : mag (get_or cs k (pos 0)) < 2 ^ 63) (sf : mag (get_or fs k (pos 0)) < 2 ^ 63)
-        (st : mag (get_or ss k (pos 0)) < 2 ^ 63) where
-      within : k < length (instructions_of cs fs ss)
-      within = omega (arith, length_instructions_of cs fs ss g.asked.as_firsts g.asked.as_seconds)
-
-      is_kept : get_or (instructions_of cs fs ss) k no_instruction
-          ≡ raw (back (get_or cs k (pos 0))) (back (get_or fs k (pos 0))) (back (get_or ss k (pos 0)))
+      is_kept : get_or given.program k no_instruction ≡ here
       is_kept =
-          instruction_at cs fs ss k l (firsts_inside l) (seconds_inside l)
-          ∙ ap₃ raw (sym (read_back cs k sc)) (sym (read_back fs k sf)) (sym (read_back ss k st))
+          ap (λ (r : RawFormula). get_or r.program k no_instruction) (sym holds)
+          ∙ instruction_at h.codes.now h.firsts.now h.seconds.now k l lists_inside.0 lists_inside.1
+          ∙ ap₃ raw (sym (read_back h.codes.now k sc)) (sym (read_back h.firsts.now k sf)) (sym (read_back h.seconds.now k st))
 
-      pub program_asks : InstructionPuttable
-          (raw (back (get_or cs k (pos 0))) (back (get_or fs k (pos 0))) (back (get_or ss k (pos 0)))) w out
+      pub program_asks : InstructionPuttable here w out
       program_asks =
           subst (λ (i : RawInstruction). InstructionPuttable i w out) is_kept
           (record {
@@ -130,18 +124,16 @@ module _ {cs fs ss : List ℤ} {w₀ : Writer} {out₀ : List ℕ} where
             makes = g.asked.makes + k;
             low = omega (arith, g.asked.low);
             puttable =
-                putting_asks (instruction_slots g.asked.scale) g.asked.makes (instructions_of cs fs ss) g.putting no_instruction within;
+                putting_asks (instruction_slots g.asked.scale) g.asked.makes given.program g.putting no_instruction within;
           })
 
-      pub program_goes_on : {r : Writer} {new : List ℕ}
-          → PutsInstruction (raw (back (get_or cs k (pos 0))) (back (get_or fs k (pos 0))) (back (get_or ss k (pos 0)))) w out new r
-          → length new ≡ length out → ProgramPutting cs fs ss w₀ out₀ (k + 1) r new
+      pub program_goes_on : {r : Writer} {new : List ℕ} → PutsInstruction here w out new r → length new ≡ length out
+          → ProgramPutting given w₀ out₀ (k + 1) r new
       program_goes_on {r} {new} p e =
           record {
-            inside = omega arith;
             asked = g.asked;
             putting =
-                putting_more (instruction_slots g.asked.scale) g.asked.makes (instructions_of cs fs ss) g.putting no_instruction within
+                putting_more (instruction_slots g.asked.scale) g.asked.makes given.program g.putting no_instruction within
                 ((subst (λ (i : RawInstruction). PutsInstruction i w out new r) (sym is_kept) p).puts g.asked.scale (g.asked.makes + k)) e;
           }
 
@@ -159,41 +151,30 @@ module _ {os : List ℤ} {w₀ : Writer} {out₀ : List ℕ} where
     abbrev v : ℕ
     v = g.asked.values
 
-    pub results_inside : k ≤ length os
-    results_inside = g.putting.inside
-
-    pub results_long : length out ≡ length out₀
-    results_long = g.putting.as_long
-
     pub results_done : length os ≤ k → PutsResults os w₀ out₀ out w
     results_done l =
         record { puts = λ u. puts_same (results_same v u 0 os) (putting_ends (output_slots v) 0 os g.putting l) }
 
     module _ (l : k < length os) (s : mag (get_or os k (pos 0)) < 2 ^ 63) where
-      this_fits : fits (operand v) (get_or os k (pos 0)) ≡ true
-      this_fits =
-          (tested_all (slot (operand v) (get_or os k (pos 0)) ∷ [])
-          (putting_asks (output_slots v) 0 os g.putting (pos 0) l).passed).0
+      here_named : Named (get_or os k (pos 0))
+      here_named =
+          named g.asked.low
+          (tested_all (slot (operand v) (get_or os k (pos 0)) ∷ []) (putting_asks (output_slots v) 0 os g.putting (pos 0) l).passed).0
 
       pub output_natural : back (get_or os k (pos 0)) ≡ pos (nat_abs (back (get_or os k (pos 0))))
-      output_natural = rw (read_back os k s) (sym (is_natural (operand v) (get_or os k (pos 0)) this_fits).is)
+      output_natural = rw (read_back os k s) (sym here_named.is)
 
       module _ {n : ℕ} (e : n ≡ encoded (back (get_or os k (pos 0)))) where
         number_is : n ≡ encoded (get_or os k (pos 0))
         number_is = e ∙ ap encoded (read_back os k s)
 
-        low : encoded (get_or os k (pos 0)) < 2 ^ 10
-        low =
-            low_operand g.asked.low (below v (get_or os k (pos 0)) this_fits)
-            (is_natural (operand v) (get_or os k (pos 0)) this_fits).is
-
         pub output_room : MayPut w 10 n out
         output_room =
             let p = putting_asks (output_slots v) 0 os g.putting (pos 0) l in
-            record { narrow = omega arith; fits = omega (arith, number_is, low); few = p.few; room = p.room }
+            record { narrow = omega arith; fits = omega (arith, number_is, here_named.low); few = p.few; room = p.room }
 
-        results_go_on : {r : Writer} {new : List ℕ} → Puts w 10 n out new r → ResultsPutting os w₀ out₀ (k + 1) r new
-        results_go_on {r} {new} p =
+        pub results_turn : {r : Writer} {new : List ℕ} → Puts w 10 n out new r → ResultsPutting os w₀ out₀ (k + 1) r new
+        results_turn {r} {new} p =
             record {
               asked = g.asked;
               putting =
@@ -202,8 +183,3 @@ module _ {os : List ℤ} {w₀ : Writer} {out₀ : List ℕ} where
                   (append-nil (to_bits 10 (encoded (get_or os k (pos 0)))) ∙ ap (to_bits 10) (sym number_is)) refl
                   output_room p) (wrote_long p.wrote);
             }
-
-pub results_turn : {os : List ℤ} {w₀ w r : Writer} {out₀ out new : List ℕ} {k n : ℕ} → Puts w 10 n out new r
-    → ResultsPutting os w₀ out₀ k w out → k < length os → mag (get_or os k (pos 0)) < 2 ^ 63
-    → n ≡ encoded (back (get_or os k (pos 0))) → ResultsPutting os w₀ out₀ (k + 1) r new
-results_turn p g l s e = results_go_on g l s e p

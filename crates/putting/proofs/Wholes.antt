@@ -1,18 +1,10 @@
 -- A whole formula put part by part, and what then stands in the list. Assumes nothing.
-use mathlib.Core.Path.{◌≡◌, sym, ◌∙◌, ap, subst, subst₂}
-use mathlib.Core.Bool.{Bool, cond}
+use mathlib.Core.Path.{◌≡◌, sym, ◌∙◌, ap, subst}
 use mathlib.Core.List.{List, [], ◌++◌}
 use Prim.Native.Nat.{ℕ, ◌+◌, ◌*◌, ◌≤◌}
 use native.Mathlib.Omega.{arith}
-use borrow.Author.Tests.{eqb-true}
-use lib.Dec.{eqb}
-use lib.IntN.{ℤ, pos, negsuc, nat_abs}
+use lib.IntN.{ℤ, nat_abs}
 use lib.ListN.{length}
-use mir.Syntax.{w64}
-use mir.Val.{SFits}
-use mir.ValLaws.{to_z-of_z}
-use Rattle.whole.proofs.Cases.{both}
-use Rattle.whole.proofs.Machine.{back}
 use Rattle.lists.specs.Written.{Wrote}
 use Rattle.lists.proofs.Again.{wrote_nothing, wrote_then, wrote_same}
 use Rattle.writing.specs.declared.Writer.{Writer}
@@ -21,131 +13,95 @@ use Rattle.writing.specs.Pending.{MayFinish, last_bytes}
 use Rattle.writing.proofs.Pendings.{nothing_pending, close}
 use Rattle.packed.specs.Items.{inputs}
 use Rattle.packed.proofs.WellFormed.{in_range}
-use Rattle.packing.specs.Raw.{count, parts, handed, instructions_of}
-use Rattle.packing.specs.Slots.{Slot, header_slots, program_slots, result_slots, raw_slots, slots_bits}
+use Rattle.packing.specs.declared.Handed.TheInside.{Inside}
+use Rattle.packing.specs.Lent.{lent}
+use Rattle.packing.specs.Raw.{RawFormula}
+use Rattle.packing.specs.Slots.{Slot, header_of, program_of, results_of, raw_slots, slots_bits}
 use Rattle.packing.specs.Slots.{slots_width, packed_bytes}
-use Rattle.packing.proofs.Packs.{AllFit, tested_all, all_tested, all_apart, is_natural, counted, fit_accepted}
+use Rattle.packing.proofs.Packs.{AllFit, tested_all, all_tested, all_apart, is_natural, fit_accepted}
 use Rattle.packing.proofs.Lengths.{width_append}
-use Rattle.fitting.proofs.Programs.{length_instructions_of}
-use Rattle.putting.specs.Putting.{Written, PutsSlots, fresh, HeaderPuttable, PutsHeader, ProgramPuttable, PutsProgram}
+use Rattle.putting.specs.Putting.{Written, PutsSlots, HeaderPuttable, PutsHeader, ProgramPuttable, PutsProgram}
 use Rattle.putting.specs.Putting.{ResultsPuttable, PutsResults}
 use Rattle.putting.specs.Writing.{Writable, WritesFormula}
 use Rattle.putting.proofs.Puttings.{slots_then}
+use Rattle.putting.proofs.Headers.{numbers}
 
-module _ (F m : ℤ) (cs fs ss os : List ℤ) {out : List ℕ} (p : Writable (handed F m (parts cs fs ss os)) out) where
-  abbrev program : List Slot
-  program = program_slots (nat_abs F) (nat_abs m) (instructions_of cs fs ss)
-
-  abbrev results : List Slot
-  results = result_slots (nat_abs m + length (instructions_of cs fs ss)) os
-
+module _ {given : RawFormula} {out : List ℕ} (p : Writable given out) where
   -- the parts that passed
   record Passed : Type 0 where
-    header_fits : AllFit (header_slots F m (pos (length cs)) (length os))
-    program_fits : AllFit program
-    results_fit : AllFit results
-    as_firsts : length cs ≡ length fs
-    as_seconds : length cs ≡ length ss
-    is : raw_slots (handed F m (parts cs fs ss os)) ≡ header_slots F m (pos (length cs)) (length os) ++ (program ++ results)
+    header_fits : AllFit (header_of given)
+    program_fits : AllFit (program_of given)
+    results_fit : AllFit (results_of given)
 
   passed : Passed
   unfolding raw_slots
   passed =
-      let all = tested_all (raw_slots (handed F m (parts cs fs ss os))) p.passed in
-      let c = counted (handed F m (parts cs fs ss os)) all.1.1.1.0 in
-      let b = both (eqb (length cs) (length fs)) (eqb (length cs) (length ss)) c.0 in
-      let as_firsts = eqb-true (length cs) (length fs) b.0 in
-      let as_seconds = eqb-true (length cs) (length ss) b.1 in
-      let body = all_apart program results all.1.1.1.1.1 in
-      let count_is : count (handed F m (parts cs fs ss os)) ≡ pos (length cs) =
-      ap (λ (t : Bool). cond t (pos (length (instructions_of cs fs ss))) (negsuc 0)) c.0
-      ∙ ap pos (length_instructions_of cs fs ss as_firsts as_seconds) in
-      let is = ap (λ (l : ℤ). header_slots F m l (length os) ++ (program ++ results)) count_is in
-      record {
-        header_fits = (all_apart (header_slots F m (pos (length cs)) (length os)) (program ++ results) (subst AllFit is all)).0;
-        program_fits = body.0;
-        results_fit = body.1;
-        as_firsts = as_firsts;
-        as_seconds = as_seconds;
-        is = is;
-      }
+      let parts = all_apart (header_of given) (program_of given ++ results_of given) (tested_all (raw_slots given) p.passed) in
+      let body = all_apart (program_of given) (results_of given) parts.1 in
+      record { header_fits = parts.0; program_fits = body.0; results_fit = body.1 }
 
-  wide : slots_width (raw_slots (handed F m (parts cs fs ss os))) ≡ 32 + (slots_width program + slots_width results)
-  wide =
+  room : 32 + (slots_width (program_of given) + slots_width (results_of given)) ≤ 8 * length out
+  unfolding raw_slots
+  room =
       omega (
         arith,
-        ap slots_width passed.is,
-        width_append (header_slots F m (pos (length cs)) (length os)) (program ++ results),
-        width_append program results,
+        p.room,
+        width_append (header_of given) (program_of given ++ results_of given),
+        width_append (program_of given) (results_of given),
       )
 
-  room : 32 + (slots_width program + slots_width results) ≤ 8 * length out
-  room = omega (arith, p.room, wide)
+  pub header_asks : HeaderPuttable given out
+  header_asks = record { passed = all_tested (header_of given) passed.header_fits; room = omega (arith, room) }
 
-  few_instructions : length cs ≤ 512
-  few_instructions = omega (arith, in_range 0 513 (length cs) passed.header_fits.1.1.1.0)
+  few : nat_abs given.inputs + length given.program ≤ 1024
+  few =
+      let n = numbers header_asks in
+      omega (arith, ap nat_abs n.inputs_natural, in_range 0 17 (nat_abs given.inputs) (is_natural inputs given.inputs passed.header_fits.1.1.0).may, n.instructions_low)
 
-  few_inputs : nat_abs m ≤ 16
-  few_inputs = omega (arith, in_range 0 17 (nat_abs m) (is_natural inputs m passed.header_fits.1.1.0).may)
+  module _ {one : List ℕ} {w : Writer} (header : PutsHeader given out one w) (long_one : length one ≡ length out) where
+    pub program_may : ProgramPuttable given w one
+    program_may =
+        record {
+          scale = nat_abs given.scale;
+          makes = nat_abs given.inputs;
+          as_long = (numbers header_asks).long;
+          low = few;
+          puttable =
+              record {
+                passed = all_tested (program_of given) passed.program_fits;
+                few = header.puts.few;
+                room = omega (arith, header.puts.place, room, long_one);
+              };
+        }
 
-  module _ (fF : SFits w64 F) (fm : SFits w64 m) where
-    pub header_asks : HeaderPuttable (back F) (back m) (length cs) (length os) out
-    header_asks =
-        subst₂ (λ (x y : ℤ). HeaderPuttable x y (length cs) (length os) out) (sym (to_z-of_z w64 F fF)) (sym (to_z-of_z w64 m fm))
-        (record {
-          passed = all_tested (header_slots F m (pos (length cs)) (length os)) passed.header_fits;
-          room = omega (arith, room);
-        })
+    module _ {two : List ℕ} {u : Writer} (q : PutsProgram given w one two u) (long_two : length two ≡ length one) where
+      put_program : PutsSlots (program_of given) w one two u
+      put_program = q.puts (nat_abs given.scale) (nat_abs given.inputs)
 
-    module _ {one : List ℕ} {w : Writer} (h : PutsHeader (back F) (back m) (length cs) (length os) out one w)
-        (long_one : length one ≡ length out) where
-      header : PutsSlots (header_slots F m (pos (length cs)) (length os)) fresh out one w
-      header =
-          (subst₂ (λ (x y : ℤ). PutsHeader x y (length cs) (length os) out one w) (to_z-of_z w64 F fF) (to_z-of_z w64 m fm) h
-          ).puts
-
-      pub program_may : ProgramPuttable cs fs ss w one
-      program_may =
+      results_are_may : ResultsPuttable given.results u two
+      results_are_may =
           record {
-            scale = nat_abs F;
-            makes = nat_abs m;
-            as_firsts = passed.as_firsts;
-            as_seconds = passed.as_seconds;
-            low = omega (arith, few_inputs, few_instructions);
+            values = nat_abs given.inputs + length given.program;
+            low = few;
             puttable =
                 record {
-                  passed = all_tested program passed.program_fits;
-                  few = header.few;
-                  room = omega (arith, header.place, room, long_one);
+                  passed = all_tested (results_of given) passed.results_fit;
+                  few = put_program.few;
+                  room = omega (arith, header.puts.place, put_program.place, room, long_one, long_two);
                 };
           }
 
-      module _ {two : List ℕ} {u : Writer} (q : PutsProgram cs fs ss w one two u) (long_two : length two ≡ length one) where
-        put_program : PutsSlots program w one two u
-        put_program = q.puts (nat_abs F) (nat_abs m)
+      module _ (h : Inside) (holds : lent h ≡ given) where
+        outputs_are : h.outputs.now ≡ given.results
+        outputs_are = ap (λ (r : RawFormula). r.results) holds
 
-        pub results_may : ResultsPuttable os u two
-        results_may =
-            record {
-              values = nat_abs m + length (instructions_of cs fs ss);
-              low =
-                  omega (
-                    arith,
-                    few_inputs,
-                    few_instructions,
-                    length_instructions_of cs fs ss passed.as_firsts passed.as_seconds,
-                  );
-              puttable =
-                  record {
-                    passed = all_tested results passed.results_fit;
-                    few = put_program.few;
-                    room = omega (arith, header.place, put_program.place, room, long_one, long_two);
-                  };
-            }
+        pub results_may : ResultsPuttable h.outputs.now u two
+        results_may = subst (λ (os : List ℤ). ResultsPuttable os u two) (sym outputs_are) results_are_may
 
-        module _ {three : List ℕ} {v : Writer} (r : PutsResults os u two three v) (long_three : length three ≡ length two) where
-          put_results : PutsSlots results u two three v
-          put_results = r.puts (nat_abs m + length (instructions_of cs fs ss))
+        module _ {three : List ℕ} {v : Writer} (r : PutsResults h.outputs.now u two three v) (long_three : length three ≡ length two) where
+          put_results : PutsSlots (results_of given) u two three v
+          put_results =
+              (subst (λ (os : List ℤ). PutsResults os u two three v) outputs_are r).puts (nat_abs given.inputs + length given.program)
 
           pub finish_may : MayFinish v three
           finish_may =
@@ -154,7 +110,7 @@ module _ (F m : ℤ) (cs fs ss os : List ℤ) {out : List ℕ} (p : Writable (ha
                 room =
                     omega (
                       arith,
-                      header.place,
+                      header.puts.place,
                       put_program.place,
                       put_results.place,
                       room,
@@ -164,14 +120,14 @@ module _ (F m : ℤ) (cs fs ss os : List ℤ) {out : List ℕ} (p : Writable (ha
                     );
               }
 
-          all_put : Written (slots_bits (raw_slots (handed F m (parts cs fs ss os)))) out three v
+          all_put : Written (slots_bits (raw_slots given)) out three v
+          unfolding raw_slots
           all_put =
-              subst (λ (ss : List Slot). Written (slots_bits ss) out three v) (sym passed.is)
-              ((slots_then header (slots_then put_program put_results)).onward [] out
-              (record { bytes = []; wrote = wrote_nothing (omega arith); pending = nothing_pending 0 }))
+              (slots_then header.puts (slots_then put_program put_results)).onward [] out
+              (record { bytes = []; wrote = wrote_nothing (omega arith); pending = nothing_pending 0 })
 
           pub formula_written : {new : List ℕ} {n : ℕ} → Wrote (last_bytes v.count v.held) v.at three new n
-              → WritesFormula (handed F m (parts cs fs ss os)) out new n
+              → WritesFormula given out new n
           unfolding packed_bytes
           formula_written e =
               record {
@@ -179,7 +135,6 @@ module _ (F m : ℤ) (cs fs ss os : List ℤ) {out : List ℕ} (p : Writable (ha
                     wrote_same
                     (sym (close all_put.pending)
                     ∙ ap (λ (ss : List Slot). bytes_of (slots_bits ss))
-                    (sym (fit_accepted (handed F m (parts cs fs ss os))
-                    (tested_all (raw_slots (handed F m (parts cs fs ss os))) p.passed)).fields))
+                    (sym (fit_accepted given (tested_all (raw_slots given) p.passed)).fields))
                     (wrote_then all_put.wrote e);
               }

@@ -1,11 +1,11 @@
 -- Fields put by a writer of bits, one after another: what is asked, and what is left.
-use Rattle.std.specs.Prelude.{◌≡◌, List, ◌++◌, ℕ, ◌+◌, ◌*◌, ◌≤◌, ◌<◌, ℤ, pos, length}
+use Rattle.std.specs.Prelude.{◌≡◌, true, List, ◌++◌, ℕ, ◌+◌, ◌*◌, ◌≤◌, ◌<◌, ℤ, length}
 use Rattle.lists.specs.Written.{Wrote}
 use Rattle.refusals.specs.Answer.{value}
 use Rattle.writing.specs.declared.Writer.{Writer}
 use Rattle.writing.specs.Pending.{Pending}
-use Rattle.packing.specs.Raw.{RawInstruction, instructions_of}
-use Rattle.packing.specs.Slots.{Slot, header_slots, instruction_slots, program_slots, result_slots}
+use Rattle.packing.specs.Raw.{RawInstruction, RawFormula}
+use Rattle.packing.specs.Slots.{Slot, header_of, instruction_slots, program_slots, result_slots}
 use Rattle.packing.specs.Slots.{slots_bits, slots_width}
 use Rattle.packing.specs.Packing.{slots_tested}
 
@@ -31,12 +31,12 @@ pub record PutsSlots (ss : List Slot) (w : Writer) (old new : List ℕ) (r : Wri
 abbrev pub fresh : Writer
 fresh = record { at = 0; count = 0; held = 0 }
 
-pub record HeaderPuttable (F m : ℤ) (l n : ℕ) (out : List ℕ) : Type 0 where
-  pub passed : slots_tested (header_slots F m (pos l) n) ≡ value tt
+pub record HeaderPuttable (given : RawFormula) (out : List ℕ) : Type 0 where
+  pub passed : slots_tested (header_of given) ≡ value tt
   pub room : 32 ≤ 8 * length out
 
-pub record PutsHeader (F m : ℤ) (l n : ℕ) (old new : List ℕ) (r : Writer) : Type 0 where
-  pub puts : PutsSlots (header_slots F m (pos l) n) fresh old new r
+pub record PutsHeader (given : RawFormula) (old new : List ℕ) (r : Writer) : Type 0 where
+  pub puts : PutsSlots (header_of given) fresh old new r
 
 -- an instruction, whatever value it makes, and at whatever scale that is permitted
 pub record InstructionPuttable (i : RawInstruction) (w : Writer) (out : List ℕ) : Type 0 where
@@ -49,16 +49,15 @@ pub record PutsInstruction (i : RawInstruction) (w : Writer) (old new : List ℕ
   pub puts : (F v : ℕ) → PutsSlots (instruction_slots F v i) w old new r
 
 -- all instructions, whatever value the first of them makes
-pub record ProgramPuttable (codes firsts seconds : List ℤ) (w : Writer) (out : List ℕ) : Type 0 where
+pub record ProgramPuttable (given : RawFormula) (w : Writer) (out : List ℕ) : Type 0 where
   pub scale : ℕ
   pub makes : ℕ
-  pub as_firsts : length codes ≡ length firsts
-  pub as_seconds : length codes ≡ length seconds
-  pub low : makes + length codes ≤ 1024
-  pub puttable : Puttable (program_slots scale makes (instructions_of codes firsts seconds)) w out
+  pub as_long : given.as_long ≡ true
+  pub low : makes + length given.program ≤ 1024
+  pub puttable : Puttable (program_slots scale makes given.program) w out
 
-pub record PutsProgram (codes firsts seconds : List ℤ) (w : Writer) (old new : List ℕ) (r : Writer) : Type 0 where
-  pub puts : (F m : ℕ) → PutsSlots (program_slots F m (instructions_of codes firsts seconds)) w old new r
+pub record PutsProgram (given : RawFormula) (w : Writer) (old new : List ℕ) (r : Writer) : Type 0 where
+  pub puts : (F m : ℕ) → PutsSlots (program_slots F m given.program) w old new r
 
 -- all outputs, however many values there are
 pub record ResultsPuttable (outputs : List ℤ) (w : Writer) (out : List ℕ) : Type 0 where

@@ -2,3 +2,4 @@
 pub mod Sign
 pub mod Passing
 pub mod OneVerdict
+pub mod InLists

@@ -1,7 +1,7 @@
 -- Two outcomes that the tests of readings allow are equal. Assumes nothing.
 use mathlib.Core.Path.{◌≡◌, sym, ◌∙◌}
 use Prim.Native.Nat.{ℕ}
-use Rattle.refusals.specs.declared.Verdict.{Verdict}
+use Rattle.refusals.specs.Places.{Verdict}
 use Rattle.refusals.proofs.OneReply.{one_verdict}
 use Rattle.formulas.specs.Readings.{Reading, Brought}
 use Rattle.readings.specs.Judges.{Judges, JudgesAll}

@@ -1,76 +1,60 @@
 -- Readings looked at one by one: what all of them come to, while those before i passed. Assumes nothing.
-use mathlib.Core.Path.{◌≡◌, refl, sym, ◌∙◌, ap}
+use mathlib.Core.Path.{◌≡◌, sym, ◌∙◌, ap}
+use mathlib.Core.Bool.{Bool, true, false, not}
 use mathlib.Core.List.{List}
-use Prim.Native.Nat.{ℕ, suc, ◌+◌, ◌-◌, ◌^◌, ◌≤◌, ◌<◌}
+use Prim.Native.Nat.{ℕ, suc, ◌+◌, ◌-◌, ◌≤◌, ◌<◌}
 use native.Mathlib.Omega.{arith}
-use lib.IntN.{ℤ, pos}
-use lib.Signed.{mag}
-use mir.Syntax.{w64}
-use mir.ValLaws.{to_z-of_z}
-use Rattle.whole.proofs.Cases.{ap₃}
-use Rattle.whole.proofs.Machine.{back}
-use Rattle.lists.specs.All.{All}
-use Rattle.refusals.specs.declared.Refusal.{Refusal}
+use borrow.Author.Tests.{not-true, not-false}
+use Rattle.std.specs.declared.result.Result.TheVariants.{Ok, Err}
+use Rattle.lists.specs.All.{All, none, one}
 use Rattle.refusals.specs.declared.Refusal.TheVariants.{ReadingCount}
-use Rattle.refusals.specs.declared.Verdict.{Verdict}
-use Rattle.refusals.specs.declared.Verdict.TheVariants.{Passed, Refused}
+use Rattle.refusals.specs.declared.Refused.{Refused}
 use Rattle.refusals.specs.Answer.{then}
-use Rattle.refusals.specs.Places.{at_place, verdict_says}
+use Rattle.refusals.specs.Places.{because, at_place, Verdict, verdict_says}
 use Rattle.refusals.proofs.Answers.{then_value, then_refused}
-use Rattle.formulas.specs.Readings.{Reading, reading, judged, lowest, Brought, readings_tested, number_at}
-use Rattle.formulas.specs.Readings.{ball_readings, domain, plain_brought, balls_brought, domain_brought}
-use Rattle.formulas.specs.GivenInRuns.{OneOther}
-use Rattle.formulas.proofs.Judging.{miscounted, counted_tested}
-use Rattle.readings.specs.Judges.{Judges, JudgesAll}
+use Rattle.formulas.specs.Readings.{Reading, judged, lowest, Brought, each_counts, readings_tested}
+use Rattle.formulas.proofs.Judging.{counts_agree, counts_differ, miscounted, counted_tested}
+use Rattle.readings.specs.Judges.{InEach, Reads, Judges, JudgesAll}
 
 -- what is left to be tested decides
 pub record PassedBefore (m : ℕ) (b : Brought) (i : ℕ) : Type 0 where
   pub within : i ≤ m
   pub comes_to : readings_tested m b ≡ lowest b.reading_at i (m - i)
 
-pub wrong_count : {m : ℕ} {b : Brought} → OneOther m b.counts → JudgesAll m b (Refused ReadingCount 0)
-wrong_count {m} {b} o = record { says = sym (miscounted m b o) }
+module _ {m : ℕ} (b : Brought) {t : Bool} (told : t ≡ each_counts m b.counts) where
+  pub wrong_count : not t ≡ true → JudgesAll m b (Err (because ReadingCount 0))
+  wrong_count e = record { says = sym (miscounted m b (counts_differ m b.counts (sym told ∙ not-true t e))) }
 
-pub none_tested : {m : ℕ} {b : Brought} → All (λ n. n ≡ m) b.counts → PassedBefore m b 0
-none_tested {m} {b} a =
-    record {
-      within = omega arith;
-      comes_to = counted_tested m b a ∙ ap (lowest b.reading_at 0) (let z : m ≡ m - 0 = omega arith in z);
-    }
+  agree : not t ≡ false → All (λ n. n ≡ m) b.counts
+  agree e = counts_agree m b.counts (sym told ∙ not-false t e)
+
+  pub none_tested : not t ≡ false → PassedBefore m b 0
+  none_tested e =
+      record {
+        within = omega arith;
+        comes_to = counted_tested m b (agree e) ∙ ap (lowest b.reading_at 0) (let z : m ≡ m - 0 = omega arith in z);
+      }
+
+  pub in_each : not t ≡ false → {i : ℕ} → i < m → InEach i b
+  in_each e l = each (agree e) l
+    where
+      each : {ns : List ℕ} → All (λ n. n ≡ m) ns → {i : ℕ} → i < m → All (λ n. i < n) ns
+      each none l = none
+      each (one e a) l = one (omega arith) (each a l)
 
 module _ {m : ℕ} {b : Brought} {i : ℕ} (p : PassedBefore m b i) where
-  pub all_pass : m ≤ i → JudgesAll m b Passed
+  pub all_pass : m ≤ i → JudgesAll m b (Ok tt)
   all_pass l = record { says = sym (p.comes_to ∙ ap (lowest b.reading_at i) (let z : m - i ≡ 0 = omega arith in z)) }
 
-  module _ (l : i < m) {v : Verdict} (j : Judges (b.reading_at i) i v) where
+  module _ (l : i < m) {g : Reading} (reads : Reads b i g) {v : Verdict} (j : Judges g i v) where
     turn : readings_tested m b ≡ then (verdict_says v) (λ x. lowest b.reading_at (i + 1) (m - (i + 1)))
     turn =
         p.comes_to ∙ ap (lowest b.reading_at i) (let z : m - i ≡ suc (m - (i + 1)) = omega arith in z)
-        ∙ ap (λ a. then a (λ x. lowest b.reading_at (i + 1) (m - (i + 1)))) (sym j.says)
+        ∙ ap (λ a. then a (λ x. lowest b.reading_at (i + 1) (m - (i + 1))))
+        (sym (j.says ∙ ap (λ (h : Reading). at_place i (judged h)) reads.is))
 
-    pub one_passes : v ≡ Passed → PassedBefore m b (i + 1)
+    pub one_passes : v ≡ Ok tt → PassedBefore m b (i + 1)
     one_passes e = record { within = omega arith; comes_to = turn ∙ then_value _ (ap verdict_says e) }
 
-    pub one_fails : {q : Refusal} {k : ℕ} → v ≡ Refused q k → JudgesAll m b (Refused q k)
+    pub one_fails : {e : Refused} → v ≡ Err e → JudgesAll m b (Err e)
     one_fails e = record { says = sym (turn ∙ then_refused _ (ap verdict_says e)) }
-
--- a number as the code reads it
-kept : (xs : List ℤ) (i : ℕ) → mag (number_at xs i) < 2 ^ 63 → back (number_at xs i) ≡ number_at xs i
-kept xs i s = to_z-of_z w64 (number_at xs i) (record { sfits = s })
-
-judges_kept : {c s r x y z : ℤ} {i : ℕ} {v : Verdict} → x ≡ c → y ≡ s → z ≡ r → Judges (reading x y z) i v → Judges (reading c s r) i v
-judges_kept {i = i} e f g j = record { says = j.says ∙ ap (λ (h : Reading). at_place i (judged h)) (ap₃ reading e f g) }
-
-module _ {i : ℕ} {v : Verdict} where
-  pub judges_plain : (xs : List ℤ) → Judges (reading (back (number_at xs i)) (pos 0) (pos 0)) i v → mag (number_at xs i) < 2 ^ 63
-      → Judges ((plain_brought xs).reading_at i) i v
-  judges_plain xs j s = judges_kept (kept xs i s) refl refl j
-
-  pub judges_ball : (cs rs : List ℤ) → Judges (reading (back (number_at cs i)) (pos 0) (back (number_at rs i))) i v
-      → mag (number_at cs i) < 2 ^ 63 → mag (number_at rs i) < 2 ^ 63 → Judges ((balls_brought (ball_readings cs rs)).reading_at i) i v
-  judges_ball cs rs j s t = judges_kept (kept cs i s) refl (kept rs i t) j
-
-  pub judges_domain : (cs ss rs : List ℤ) → Judges (reading (back (number_at cs i)) (back (number_at ss i)) (back (number_at rs i))) i v
-      → mag (number_at cs i) < 2 ^ 63 → mag (number_at ss i) < 2 ^ 63 → mag (number_at rs i) < 2 ^ 63
-      → Judges ((domain_brought (domain cs ss rs)).reading_at i) i v
-  judges_domain cs ss rs j s t u = judges_kept (kept cs i s) (kept ss i t) (kept rs i u) j

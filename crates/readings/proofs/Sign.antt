@@ -14,8 +14,8 @@ use mir.ValLaws.{to_z-of_z}
 use Rattle.whole.proofs.Machine.{back, size_back}
 use Rattle.rules.specs.Numbers.{M}
 use Rattle.refusals.specs.declared.Refusal.TheVariants.{NegativeMargin, ReadingTooLarge}
-use Rattle.refusals.specs.declared.Verdict.TheVariants.{Passed, Refused}
-use Rattle.refusals.specs.Places.{at_place}
+use Rattle.std.specs.declared.result.Result.TheVariants.{Ok, Err}
+use Rattle.refusals.specs.Places.{because, at_place}
 use Rattle.formulas.specs.Readings.{reading}
 use Rattle.formulas.specs.GivenInRuns.{BelowZero, Negative, Bad}
 use Rattle.formulas.proofs.Judging.{negative_judged, large_judged, good_judged}
@@ -34,10 +34,10 @@ at_least_zero (negsuc n) e b = let z : ◌≡◌ {A = ℕ} 0 1 = cc in omega ari
 
 -- the four ways to come out of the tests
 module _ {c s r : ℤ} {at : ℕ} where
-  pub told_stray : SFits w64 s → lt_z (back s) (pos 0) ≡ true → Judges (reading c s r) at (Refused NegativeMargin at)
+  pub told_stray : SFits w64 s → lt_z (back s) (pos 0) ≡ true → Judges (reading c s r) at (Err (because NegativeMargin at))
   told_stray f t = record { says = sym (ap (at_place at) (negative_judged (reading c s r) (inl (below_zero s (bare_sign s f t))))) }
 
-  pub told_margin : SFits w64 r → lt_z (back r) (pos 0) ≡ true → Judges (reading c s r) at (Refused NegativeMargin at)
+  pub told_margin : SFits w64 r → lt_z (back r) (pos 0) ≡ true → Judges (reading c s r) at (Err (because NegativeMargin at))
   told_margin f t = record { says = sym (ap (at_place at) (negative_judged (reading c s r) (inr (below_zero r (bare_sign r f t))))) }
 
 module _ {c s r : ℤ} (fs : SFits w64 s) (fr : SFits w64 r) (fc : SFits w64 c) (ts : lt_z (back s) (pos 0) ≡ false)
@@ -50,12 +50,12 @@ module _ {c s r : ℤ} (fs : SFits w64 s) (fr : SFits w64 r) (fc : SFits w64 c) 
   same = omega (arith, p ∙ size_back c fc.sfits, q ∙ size_back s fs.sfits, w ∙ size_back r fr.sfits)
 
   module _ {fits : Bool} (e : fits ≡ leb (a + b + d) M) {at : ℕ} where
-    pub told_large : not fits ≡ true → Judges (reading c s r) at (Refused ReadingTooLarge at)
+    pub told_large : not fits ≡ true → Judges (reading c s r) at (Err (because ReadingTooLarge at))
     told_large n =
         let l = leb-false (a + b + d) M (sym e ∙ not-true fits n) in
         record { says = sym (ap (at_place at) (large_judged (reading c s r) neither (omega (arith, same)))) }
 
-    pub told_good : not fits ≡ false → Judges (reading c s r) at Passed
+    pub told_good : not fits ≡ false → Judges (reading c s r) at (Ok tt)
     told_good t = record { says = sym (ap (at_place at) (good_judged (reading c s r) sound)) }
       where
         sound : Bad (reading c s r) → ⊥

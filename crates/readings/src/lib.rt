@@ -2,65 +2,108 @@
 // or which one is not, and why.
 #![tactic(auto)]
 
-ghost use Rattle.formulas.specs.Readings.{reading, ball_readings, plain_brought, balls_brought};
-ghost use Rattle.readings.specs.Judges.{Judges, JudgesAll};
+ghost use Rattle.std.specs.Prelude.{◌≡◌};
+ghost use Rattle.formulas.specs.Readings.{reading, Brought, each_counts, ball_readings, plain_brought, balls_brought};
+ghost use Rattle.readings.specs.Judges.{InEach, Reads, Judges, JudgesAll};
 
-use refusals::{Refusal, Verdict};
+use refusals::{Refusal, Refused};
 use rounding::within;
 use whole::magnitude;
 
-// One reading, at its place; a part that its kind lacks is 0. Once the signs are known, two of the sizes cost nothing.
-pub fn judge(c: i64, s: i64, r: i64, at: usize) -> Verdict
-    ensures { Judges (reading c s r) at result }
-{
-    if s < 0 {
-        return Verdict::Refused(Refusal::NegativeMargin, at);
-    }
-    if r < 0 {
-        return Verdict::Refused(Refusal::NegativeMargin, at);
-    }
-    if !within(magnitude(c), magnitude(s), magnitude(r)) {
-        return Verdict::Refused(Refusal::ReadingTooLarge, at);
-    }
-    Verdict::Passed
+// A reading as it arrives; a part that its kind lacks is 0.
+#[derive(Clone, Copy)]
+pub struct Reading {
+    pub centre: i64,
+    pub stray: i64,
+    pub margin: i64,
 }
 
-// Whether these are m plain values.
-pub fn plain_readings(readings: &[i64], m: usize) -> Verdict
-    ensures { JudgesAll m (plain_brought readings.now) result }
+// One reading, at its place. Once the signs are known, two of the sizes cost nothing.
+pub fn judge(g: Reading, at: usize) -> Result<(), Refused>
+    ensures { Judges (reading g.centre g.stray g.margin) at result }
 {
-    if readings.len() != m {
-        return Verdict::Refused(Refusal::ReadingCount, 0);
+    if g.stray < 0 || g.margin < 0 {
+        return Err(Refused {
+            why: Refusal::NegativeMargin,
+            place: at,
+        });
     }
-    let mut i = 0;
-    while i < m {
-        let x = readings[i];
-        if let Verdict::Refused(q, k) = judge(x, 0, 0, i) {
-            return Verdict::Refused(q, k);
-        }
-        i = i + 1;
+    if !within(magnitude(g.centre), magnitude(g.stray), magnitude(g.margin)) {
+        return Err(Refused {
+            why: Refusal::ReadingTooLarge,
+            place: at,
+        });
     }
-    Verdict::Passed
+    Ok(())
 }
 
-// Whether these are m balls.
-pub fn ball_readings(centres: &[i64], margins: &[i64], m: usize) -> Verdict
-    ensures { JudgesAll m (balls_brought (ball_readings centres.now margins.now)) result }
+// What a caller brings: a list for each part of a reading.
+pub trait Readings {
+    ghost brought: { Self → Brought };
+
+    // Whether each list has m numbers.
+    fn count_is(&self, m: usize) -> bool
+        ensures { result ≡ each_counts m (brought self.now).counts };
+
+    fn at(&self, i: usize) -> Reading
+        requires { InEach i (brought self.now) }
+        ensures { Reads (brought self.now) i (reading result.centre result.stray result.margin) };
+}
+
+// Whether these are m readings.
+pub fn test<R: Readings>(given: &R, m: usize) -> Result<(), Refused>
+    ensures { JudgesAll m (R.brought given.now) result }
 {
-    if centres.len() != m {
-        return Verdict::Refused(Refusal::ReadingCount, 0);
+    if !given.count_is(m) {
+        return Err(Refusal::ReadingCount.into());
     }
-    if margins.len() != m {
-        return Verdict::Refused(Refusal::ReadingCount, 0);
+    for i in 0..m {
+        judge(given.at(i), i)?;
     }
-    let mut i = 0;
-    while i < m {
-        let c = centres[i];
-        let r = margins[i];
-        if let Verdict::Refused(q, k) = judge(c, 0, r, i) {
-            return Verdict::Refused(q, k);
+    Ok(())
+}
+
+// Bare readings.
+#[derive(Clone, Copy)]
+pub struct GivenValues<'a> {
+    pub values: &'a [i64],
+}
+
+impl Readings for GivenValues<'_> {
+    ghost brought = { λ g. plain_brought g.values.now };
+
+    fn count_is(&self, m: usize) -> bool {
+        self.values.len() == m
+    }
+
+    fn at(&self, i: usize) -> Reading {
+        Reading {
+            centre: self.values[i],
+            stray: 0,
+            margin: 0,
         }
-        i = i + 1;
     }
-    Verdict::Passed
+}
+
+// Readings with their margins.
+#[derive(Clone, Copy)]
+pub struct GivenBalls<'a> {
+    pub centres: &'a [i64],
+    pub margins: &'a [i64],
+}
+
+impl Readings for GivenBalls<'_> {
+    ghost brought = { λ g. balls_brought (ball_readings g.centres.now g.margins.now) };
+
+    fn count_is(&self, m: usize) -> bool {
+        self.centres.len() == m && self.margins.len() == m
+    }
+
+    fn at(&self, i: usize) -> Reading {
+        Reading {
+            centre: self.centres[i],
+            stray: 0,
+            margin: self.margins[i],
+        }
+    }
 }

@@ -1,3 +1,4 @@
 -- What the proofs share.
-pub mod Inverses
+pub mod Quotients
 pub mod Steps
+pub mod Inverses

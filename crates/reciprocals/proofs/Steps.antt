@@ -10,7 +10,7 @@ use Rattle.rules.proofs.Quotients.{T_most, inverse_size}
 use Rattle.whole.proofs.Machine.{back, back_is}
 
 -- a centre that was kept is as it was
-kept : (a : ℤ) → nat_abs a ≤ M → back a ≡ a
+pub kept : (a : ℤ) → nat_abs a ≤ M → back a ≡ a
 kept a p = back_is a (omega arith)
 
 -- n is the size of a, as the code takes it

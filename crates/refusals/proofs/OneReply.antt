@@ -9,15 +9,15 @@ use lib.Dec.{leb}
 use lib.ListN.{get_or, get_or-eq_default}
 use Rattle.refusals.specs.declared.Refusal.{Refusal}
 use Rattle.refusals.specs.declared.Refusal.TheVariants.{Ended, Version, Scale, Count, Code, Operand, Constant, Padding, NoRoom, OutOfReach, AnotherForm, ReadingCount, NegativeMargin, ReadingTooLarge, ReciprocalScale, MayBeZero, Misplaced, TooDeep, CardMisfit, MarginNotZero, NumberText, MarginText, BallReach, DecimalPlaces}
-use Rattle.refusals.specs.declared.Reply.{Reply}
-use Rattle.refusals.specs.declared.Reply.TheVariants.{Done, Refused}
-use Rattle.refusals.specs.declared.Verdict.{Verdict}
-use Rattle.refusals.specs.declared.Verdict.TheVariants as verdict
+use Rattle.std.specs.Prelude.{IsErrAnd}
+use Rattle.std.specs.declared.result.Result.{Result}
+use Rattle.std.specs.declared.result.Result.TheVariants.{Ok, Err}
+use Rattle.refusals.specs.declared.Refused.{Refused}
 use Rattle.refusals.specs.Refusals.{refusal_number}
 use Rattle.refusals.specs.Answer.{value, refused, Answer, refuse}
-use Rattle.refusals.specs.Places.{Where, Placed, refuse_at, verdict_says}
-use Rattle.refusals.specs.Said.{Said, answered, refuses, reply_said}
-use Rattle.refusals.proofs.Answers.{no_value, refused_same}
+use Rattle.refusals.specs.Places.{Where, Placed, refuse_at, says, says_bare, Verdict, verdict_says}
+use Rattle.refusals.specs.Said.{Said, answered, refuses, Reply, reply_said}
+use Rattle.refusals.proofs.Answers.{no_value, same_value, refused_same}
 
 -- place n has the refusal of number n; no refusal has number 0, 9, 21 or 23
 abbrev in_order : List Refusal
@@ -93,11 +93,14 @@ place_said (refuses n k) = k
 pub never_both : {n m k : ℕ} → answered n ≡ refuses m k → ⊥
 never_both e = let z : ◌≡◌ {A = ℕ} 0 1 = cc in omega arith
 
+pub same_refused : {q r : Refused} → refusal_number q.why ≡ refusal_number r.why → q.place ≡ r.place → q ≡ r
+same_refused {q} {r} e f = ap₂ (λ (w : Refusal) (k : ℕ). record { why = w; place = k }) (same_number q.why r.why e) f
+
 pub one_reply : (r t : Reply) → reply_said r ≡ reply_said t → r ≡ t
-one_reply (Done m) (Done n) e = ap Done (ap first_said e)
-one_reply (Done m) (Refused r k) e = absurd (never_both e)
-one_reply (Refused q j) (Done n) e = absurd (never_both (sym e))
-one_reply (Refused q j) (Refused r k) e = ap₂ Refused (same_number q r (ap first_said e)) (ap place_said e)
+one_reply (Ok m) (Ok n) e = ap Ok (ap first_said e)
+one_reply (Ok m) (Err r) e = absurd (never_both e)
+one_reply (Err q) (Ok n) e = absurd (never_both (sym e))
+one_reply (Err q) (Err r) e = ap Err (same_refused (ap first_said e) (ap place_said e))
 
 -- so do a refusal with its place, and a test
 pub one_place : {A : Type 0} (q r : Refusal) (j k : ℕ) → ◌≡◌ {A = Placed A} (refuse_at q j) (refuse_at r k) → (q ≡ r) × (j ≡ k)
@@ -105,8 +108,24 @@ one_place q r j k e =
     let same = refused_same e in
     (same_number q r (ap (λ (w : Where). w.number) same), ap (λ (w : Where). w.place) same)
 
+-- an error that is passed on
+pub passed_on : {A E : Type 0} {r : Result A E} {e : E} → IsErrAnd r (λ x. x ≡ e) → r ≡ Err e
+passed_on {r = Ok a} n = absurd n
+passed_on {r = Err e} p = ap Err p
+
+pub one_answer : {A : Type 0} (r t : Result A Refused) → says r ≡ says t → r ≡ t
+one_answer (Ok a) (Ok b) e = ap Ok (same_value e)
+one_answer (Ok a) (Err r) e = absurd (no_value (sym e))
+one_answer (Err q) (Ok b) e = absurd (no_value e)
+one_answer (Err q) (Err r) e =
+    let same = refused_same e in
+    ap Err (same_refused (ap (λ (w : Where). w.number) same) (ap (λ (w : Where). w.place) same))
+
+pub one_bare : {A : Type 0} (r t : Result A Refusal) → says_bare r ≡ says_bare t → r ≡ t
+one_bare (Ok a) (Ok b) e = ap Ok (same_value e)
+one_bare (Ok a) (Err r) e = absurd (no_value (sym e))
+one_bare (Err q) (Ok b) e = absurd (no_value e)
+one_bare (Err q) (Err r) e = ap Err (same_number q r (refused_same e))
+
 pub one_verdict : (r t : Verdict) → verdict_says r ≡ verdict_says t → r ≡ t
-one_verdict verdict.Passed verdict.Passed e = refl
-one_verdict verdict.Passed (verdict.Refused q j) e = absurd (no_value (sym e))
-one_verdict (verdict.Refused q j) verdict.Passed e = absurd (no_value e)
-one_verdict (verdict.Refused q j) (verdict.Refused r k) e = let p = one_place q r j k e in ap₂ verdict.Refused p.0 p.1
+one_verdict r t e = one_answer r t e

@@ -3,10 +3,11 @@
 use Rattle.std.specs.Prelude.{ℕ}
 use Rattle.refusals.specs.declared.Refusal.{Refusal}
 use Rattle.refusals.specs.declared.Refusal.TheVariants as refusal
-use Rattle.refusals.specs.declared.Verdict.{Verdict}
-use Rattle.refusals.specs.declared.Verdict.TheVariants.{Passed, Refused}
+use Rattle.std.specs.declared.result.Result.{Result}
+use Rattle.std.specs.declared.result.Result.TheVariants.{Ok, Err}
+use Rattle.refusals.specs.declared.Refused.{Refused}
 use Rattle.refusals.specs.Refusals.{refusal_number, AtStep}
-use Rattle.refusals.specs.Answer.{Outcome, value, refused, Answer}
+use Rattle.refusals.specs.Answer.{Outcome, value, refused, Answer, refuse}
 
 -- what a job is told: the number of a refusal and its place
 pub record Where : Type 0 where
@@ -37,7 +38,26 @@ pub data HasPlace : ℕ → Type 0 where
   negative : HasPlace (refusal_number refusal.NegativeMargin)
   too_large : HasPlace (refusal_number refusal.ReadingTooLarge)
 
+-- a refusal as the code has it
+abbrev pub because : Refusal → ℕ → Refused
+because q k = record { why = q; place = k }
+
+-- what the code's answer says, with the place of a refusal
+abbrev pub says : {A : Type 0} → Result A Refused → Placed A
+says (Ok a) = value a
+says (Err e) = refuse_at e.why e.place
+
+-- and without one, where f is what the code's values mean
+abbrev pub meant_bare : {A B : Type 0} → (A → B) → Result A Refusal → Answer B
+meant_bare f (Ok a) = value (f a)
+meant_bare f (Err q) = refuse q
+
+abbrev pub says_bare : {A : Type 0} → Result A Refusal → Answer A
+says_bare = meant_bare (λ a. a)
+
 -- what a test says
+abbrev pub Verdict : Type 0
+Verdict = Result (Unit {0}) Refused
+
 abbrev pub verdict_says : Verdict → Placed (Unit {0})
-verdict_says Passed = value tt
-verdict_says (Refused r k) = refuse_at r k
+verdict_says = says

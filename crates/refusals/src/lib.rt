@@ -1,81 +1,58 @@
-// Why a caller gets no answer, and how a test or a job ended. A later refusal is one line in each of `Refusal`,
-// `number_of` and specs/Refusals.
+// Why a caller gets no answer, and how a test or a job ended. A later refusal is one line in `Refusal` and
+// one in specs/Refusals.
 #![tactic(auto)]
 
 ghost use Rattle.std.specs.Prelude.{◌≡◌};
 ghost use Rattle.refusals.specs.Refusals.{refusal_number};
 
 // In the order of the numbers; 9 is none, and 21 and 23 are not given yet.
-#[derive(Clone, Copy)]
+#[derive(Clone, Copy, Debug, PartialEq, Eq)]
 pub enum Refusal {
-    Ended,
-    Version,
-    Scale,
-    Count,
-    Code,
-    Operand,
-    Constant,
-    Padding,
-    NoRoom,
-    OutOfReach,
-    AnotherForm,
-    ReadingCount,
-    NegativeMargin,
-    ReadingTooLarge,
-    ReciprocalScale,
-    MayBeZero,
-    Misplaced,
-    TooDeep,
-    CardMisfit,
-    MarginNotZero,
-    NumberText,
-    MarginText,
-    BallReach,
-    DecimalPlaces,
+    Ended = 1,
+    Version = 2,
+    Scale = 3,
+    Count = 4,
+    Code = 5,
+    Operand = 6,
+    Constant = 7,
+    Padding = 8,
+    NoRoom = 10,
+    OutOfReach = 11,
+    AnotherForm = 12,
+    ReadingCount = 13,
+    NegativeMargin = 14,
+    ReadingTooLarge = 15,
+    ReciprocalScale = 16,
+    MayBeZero = 17,
+    Misplaced = 18,
+    TooDeep = 19,
+    CardMisfit = 20,
+    MarginNotZero = 22,
+    NumberText = 24,
+    MarginText = 25,
+    BallReach = 26,
+    DecimalPlaces = 27,
 }
 
-// Whether what a caller brought passed its test, or why not and at which place.
-#[derive(Clone, Copy)]
-pub enum Verdict {
-    Passed,
-    Refused(Refusal, usize),
+// A refusal, and its place: the reading's index or, for 11 and 17, the instruction's.
+#[derive(Clone, Copy, Debug, PartialEq, Eq)]
+pub struct Refused {
+    pub why: Refusal,
+    pub place: usize,
 }
 
-// How many outputs were written, or why none was and at which place.
-#[derive(Clone, Copy)]
-pub enum Reply {
-    Done(usize),
-    Refused(Refusal, usize),
+// Every other refusal has place 0.
+impl From<Refusal> for Refused {
+    ghost from_gives = { λ why r. r ≡ record { why = why; place = 0 } };
+
+    fn from(why: Refusal) -> Refused {
+        Refused { why, place: 0 }
+    }
 }
 
 // The paper's number.
 pub fn number_of(r: Refusal) -> u32
     ensures { result ≡ refusal_number r }
 {
-    match r {
-        Refusal::Ended => 1,
-        Refusal::Version => 2,
-        Refusal::Scale => 3,
-        Refusal::Count => 4,
-        Refusal::Code => 5,
-        Refusal::Operand => 6,
-        Refusal::Constant => 7,
-        Refusal::Padding => 8,
-        Refusal::NoRoom => 10,
-        Refusal::OutOfReach => 11,
-        Refusal::AnotherForm => 12,
-        Refusal::ReadingCount => 13,
-        Refusal::NegativeMargin => 14,
-        Refusal::ReadingTooLarge => 15,
-        Refusal::ReciprocalScale => 16,
-        Refusal::MayBeZero => 17,
-        Refusal::Misplaced => 18,
-        Refusal::TooDeep => 19,
-        Refusal::CardMisfit => 20,
-        Refusal::MarginNotZero => 22,
-        Refusal::NumberText => 24,
-        Refusal::MarginText => 25,
-        Refusal::BallReach => 26,
-        Refusal::DecimalPlaces => 27,
-    }
+    r as u32
 }

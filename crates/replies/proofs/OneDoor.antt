@@ -6,7 +6,7 @@ use Rattle.refusals.specs.Answer.{Answer}
 use Rattle.formulas.specs.Formula.{Formula}
 use Rattle.formulas.specs.Kinds.{Kind}
 use Rattle.formulas.specs.Job.{work_of, outputs_of, Lent, lent_job}
-use Rattle.formulas.proofs.Lawful.{Lawful}
+use Rattle.formulas.specs.Lawful.{Lawful}
 use Rattle.packed.specs.Meaning.{checked}
 use Rattle.replies.specs.declared.MarginsReply.{MarginsReply}
 use Rattle.replies.specs.declared.MarginsFormula.{MarginsFormula}

@@ -4,30 +4,26 @@ use mathlib.Core.List.{List}
 use Prim.Native.Nat.{ℕ, ◌≤◌, zero-le}
 use native.Mathlib.Omega.{arith}
 use lib.ListN.{length, get_or, length-map}
-use Rattle.refusals.specs.declared.Refusal.{Refusal}
-use Rattle.refusals.specs.declared.Reply.{Reply}
-use Rattle.refusals.specs.declared.Reply.TheVariants.{Done, Refused}
-use Rattle.refusals.specs.Refusals.{refusal_number}
+use Rattle.std.specs.declared.result.Result.TheVariants.{Ok, Err}
+use Rattle.refusals.specs.Said.{Reply}
 use Rattle.refusals.specs.Answer.{value, refused}
 use Rattle.refusals.specs.Places.{Placed}
 use Rattle.refusals.specs.Said.{Said, answered, refuses, reply_said}
-use Rattle.formulas.specs.declared.Header.{Header}
-use Rattle.formulas.specs.Formula.{Formula, InLimits}
+use Rattle.formulas.specs.Formula.{Formula}
 use Rattle.formulas.specs.Run.{Walk, finished, stopped}
 use Rattle.formulas.specs.Kinds.{Kind}
 use Rattle.formulas.specs.Job.{Started, start, walk_ended, started_run, job, said, Lent, lent_job, Kept}
-use Rattle.formulas.proofs.Lawful.{Lawful}
+use Rattle.formulas.specs.Lawful.{Lawful}
 use Rattle.formulas.proofs.Jobs.{starts, job_refused, job_started, job_numbered}
 use Rattle.packed.specs.Meaning.{formula, checked}
 use Rattle.packed.proofs.WellFormed.{accepted_well_formed}
 use Rattle.packed.proofs.GivenExactly.{formula_numbered}
 use Rattle.packed.proofs.Formed.{formed, limits_of}
-use Rattle.checking.specs.declared.Checked.{Checked}
-use Rattle.checking.specs.declared.Checked.TheVariants as checked
+use Rattle.checking.specs.CheckAnswers.{Checked}
 use Rattle.checking.specs.CheckAnswers.{check_answer}
 use Rattle.replies.specs.declared.MarginsReply.{MarginsReply}
 use Rattle.replies.specs.declared.MarginsFormula.{MarginsFormula}
-use Rattle.replies.specs.Doors.{margins_reply, margins_packed, margins_formula, outputs_told, CheckedInLimits, Door}
+use Rattle.replies.specs.Doors.{margins_reply, margins_formula, outputs_told, CheckedInLimits, Door}
 
 pub job_few : (K : Kind) (s : List ℕ) (given : K.Readings) (work output : ℕ) → outputs_told (said (job K (formula s) given work output)) ≤ 16
 job_few K s given work output = by_start (start K (formula s) given work output) refl
@@ -53,56 +49,25 @@ module _ (K : Kind) (s : List ℕ) {given : K.Readings} {old new : Lent K} {q : 
 
 -- a door that tells no refusal leaves what the job leaves that answers
 pub door_kept : {K : Kind} → Lawful K → (s : List ℕ) {given : K.Readings} {old new : Lent K} {r : MarginsReply} → Door K (formula s) given old new r
-    → r.refusal ≡ 0 → Kept K (formula s) given old new (Done r.outputs)
+    → r.refusal ≡ 0 → Kept K (formula s) given old new (Ok r.outputs)
 door_kept {K} law s {given} {old} {new} {r} d z = by_said (said (lent_job K (formula s) given old)) refl
   where
-    by_said : (t : Said) → said (lent_job K (formula s) given old) ≡ t → Kept K (formula s) given old new (Done r.outputs)
+    by_said : (t : Said) → said (lent_job K (formula s) given old) ≡ t → Kept K (formula s) given old new (Ok r.outputs)
     by_said (answered n) u =
         record { says = ap answered (ap (λ (m : MarginsReply). m.outputs) (d.tells ∙ ap margins_reply u)) ∙ sym u; works = d.works; gives = d.gives }
     by_said (refuses n k) u =
         let no : n ≡ 0 = sym (ap (λ (m : MarginsReply). m.refusal) (d.tells ∙ ap margins_reply u)) ∙ z in
         absurd (omega (arith, job_numbered law (formula s) given (K.room old.work) (K.room old.output) (formula_numbered s) (sym u)))
 
--- a reply, case by case
-pub done_few : (most : ℕ) (q : Reply) {n : ℕ} → outputs_told (reply_said q) ≤ most → q ≡ Done n → n ≤ most
-done_few most q l e = subst (λ t. outputs_told (reply_said t) ≤ most) e l
-
 -- where an answer names so many at the most, what is told does
-pub few_told : (most : ℕ) (q : Reply) → ((n : ℕ) → q ≡ Done n → n ≤ most) → outputs_told (reply_said q) ≤ most
-few_told most (Done n) few = few n refl
-few_told most (Refused r k) few = zero-le
-
-pub packed_done : {q : Reply} {n : ℕ} → q ≡ Done n → record { refusal = 0; bytes = n; place = 0 } ≡ margins_packed (reply_said q)
-packed_done e = sym (ap (λ t. margins_packed (reply_said t)) e)
-
-pub packed_refused : {q : Reply} {why : Refusal} {n k : ℕ} → n ≡ refusal_number why → q ≡ Refused why k
-    → record { refusal = n; bytes = 0; place = k } ≡ margins_packed (reply_said q)
-packed_refused {k = k} m t = ap (λ (n : ℕ). record { refusal = n; bytes = 0; place = k }) m ∙ sym (ap (λ t. margins_packed (reply_said t)) t)
-
-pub told_done : {q : Reply} {n : ℕ} → q ≡ Done n → record { refusal = 0; outputs = n; place = 0 } ≡ margins_reply (reply_said q)
-told_done e = sym (ap (λ t. margins_reply (reply_said t)) e)
-
-pub told_refused : {q : Reply} {why : Refusal} {n k : ℕ} {r : MarginsReply} → r ≡ record { refusal = n; outputs = 0; place = k }
-    → n ≡ refusal_number why → q ≡ Refused why k → r ≡ margins_reply (reply_said q)
-told_refused {k = k} e m t = e ∙ ap (λ (n : ℕ). record { refusal = n; outputs = 0; place = k }) m ∙ sym (ap (λ t. margins_reply (reply_said t)) t)
-
--- a header, or the refusal
-pub known_limits : (c : Checked) {h : Header} → CheckedInLimits c → c ≡ checked.Formula h → InLimits h
-known_limits c l e = subst CheckedInLimits e l
-
-pub told_formula : {c : Checked} {h : Header} {r : MarginsFormula} → r ≡ margins_formula (value h) → c ≡ checked.Formula h
-    → r ≡ margins_formula (check_answer c)
-told_formula e t = e ∙ sym (ap (λ (x : Checked). margins_formula (check_answer x)) t)
-
-pub told_unread : {c : Checked} {q : Refusal} {n : ℕ} → n ≡ refusal_number q → c ≡ checked.Refused q
-    → margins_formula (refused n) ≡ margins_formula (check_answer c)
-told_unread e t =
-    ap (λ (n : ℕ). margins_formula (refused n)) e ∙ sym (ap (λ (x : Checked). margins_formula (check_answer x)) t)
+pub few_told : (most : ℕ) (q : Reply) → ((n : ℕ) → q ≡ Ok n → n ≤ most) → outputs_told (reply_said q) ≤ most
+few_told most (Ok n) few = few n refl
+few_told most (Err e) few = zero-le
 
 -- what was checked
 pub checked_limits : (c : Checked) (s : List ℕ) → check_answer c ≡ checked s → CheckedInLimits c
-checked_limits (checked.Formula h) s e = limits_of (formed s (sym e))
-checked_limits (checked.Refused r) s e = tt
+checked_limits (Ok h) s e = limits_of (formed s (sym e))
+checked_limits (Err r) s e = tt
 
 pub told_checked : (c : Checked) (s : List ℕ) {r : MarginsFormula} → r ≡ margins_formula (check_answer c)
     → check_answer c ≡ checked s → r ≡ margins_formula (checked s)

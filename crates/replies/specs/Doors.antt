@@ -1,5 +1,6 @@
 -- What C sees of each job: the reply's number where Rattle has an enum; the lent lists are those of the job.
 use Rattle.std.specs.Prelude.{◌≡◌, ℕ}
+use Rattle.std.specs.declared.result.Result.TheVariants.{Ok, Err}
 use Rattle.refusals.specs.Answer.{Answer, value, refused}
 use Rattle.refusals.specs.Said.{Said, answered, refuses}
 use Rattle.formulas.specs.declared.Header.{Header}
@@ -7,8 +8,7 @@ use Rattle.formulas.specs.Formula as formulas
 use Rattle.formulas.specs.Formula.{InLimits}
 use Rattle.formulas.specs.Kinds.{Kind}
 use Rattle.formulas.specs.Job.{work_of, outputs_of, said, Lent, lent_job}
-use Rattle.checking.specs.declared.Checked.{Checked}
-use Rattle.checking.specs.declared.Checked.TheVariants.{Formula, Refused}
+use Rattle.checking.specs.CheckAnswers.{Checked}
 use Rattle.replies.specs.declared.MarginsReply.{MarginsReply}
 use Rattle.replies.specs.declared.MarginsFormula.{MarginsFormula}
 use Rattle.replies.specs.declared.MarginsPacked.{MarginsPacked}
@@ -29,8 +29,8 @@ margins_formula (refused n) = record { refusal = n; scale = 0; inputs = 0; outpu
 
 -- a header that was checked is within its limits
 abbrev pub CheckedInLimits : Checked → Type 0
-CheckedInLimits (Formula h) = InLimits h
-CheckedInLimits (Refused r) = Unit {0}
+CheckedInLimits (Ok h) = InLimits h
+CheckedInLimits (Err r) = Unit {0}
 
 abbrev pub outputs_told : Said → ℕ
 outputs_told (answered n) = n

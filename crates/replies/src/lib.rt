@@ -1,4 +1,4 @@
-// From an answer in Rattle to what C sees of it: a struct of numbers, since C has no enum with values.
+// From an answer in Rattle to what C sees of it: a struct of numbers, since C has no Result.
 #![tactic(auto)]
 
 ghost use Rattle.std.specs.Prelude.{◌≡◌, ◌≤◌};
@@ -8,9 +8,8 @@ ghost use Rattle.formulas.specs.Formula.{InLimits};
 ghost use Rattle.checking.specs.CheckAnswers.{check_answer};
 ghost use Rattle.replies.specs.Doors.{margins_reply, margins_packed, margins_formula, outputs_told, CheckedInLimits};
 
-use checking::Checked;
 use formulas::Header;
-use refusals::{Reply, number_of};
+use refusals::{Refusal, Refused, number_of};
 
 // The number of the refusal, or 0; how many outputs were written; the refusal's place.
 #[repr(C)]
@@ -32,7 +31,8 @@ pub struct MarginsFormula {
     pub instructions: u32,
 }
 
-// The number of the refusal, or 0; how many bytes were written; the refusal's place.
+// The number of the refusal, or 0; how many bytes were written; the refusal's place. C knows its fields by other names than
+// those of `MarginsReply`.
 #[repr(C)]
 #[derive(Clone, Copy)]
 pub struct MarginsPacked {
@@ -41,69 +41,56 @@ pub struct MarginsPacked {
     pub place: u64,
 }
 
-fn refused(number: u32, place: usize) -> MarginsReply
-    ensures { result ≡ record { refusal = number; outputs = 0; place = place } }
-{
-    MarginsReply {
-        refusal: number,
-        outputs: 0,
-        place: place as u64,
-    }
-}
-
-pub fn replied(r: Reply) -> MarginsReply
+pub fn replied(r: Result<usize, Refused>) -> MarginsReply
     requires { outputs_told (reply_said r) ≤ 16 }
     ensures { result ≡ margins_reply (reply_said r) }
 {
     match r {
-        Reply::Done(n) => MarginsReply {
+        Ok(n) => MarginsReply {
             refusal: 0,
             outputs: n as u32,
             place: 0,
         },
-        Reply::Refused(why, place) => refused(number_of(why), place),
+        Err(e) => MarginsReply {
+            refusal: number_of(e.why),
+            outputs: 0,
+            place: e.place as u64,
+        },
     }
 }
 
 // A reply that tells how many bytes were written.
-pub fn packed_told(r: Reply) -> MarginsPacked
+pub fn packed_told(r: Result<usize, Refused>) -> MarginsPacked
     requires { outputs_told (reply_said r) ≤ 4248 }
     ensures { result ≡ margins_packed (reply_said r) }
 {
     match r {
-        Reply::Done(n) => MarginsPacked {
+        Ok(n) => MarginsPacked {
             refusal: 0,
             bytes: n as u32,
             place: 0,
         },
-        Reply::Refused(why, place) => MarginsPacked {
-            refusal: number_of(why),
+        Err(e) => MarginsPacked {
+            refusal: number_of(e.why),
             bytes: 0,
-            place: place as u64,
+            place: e.place as u64,
         },
     }
 }
 
-fn headed(h: Header) -> MarginsFormula
-    requires { InLimits h }
-    ensures { result ≡ margins_formula (value h) }
-{
-    MarginsFormula {
-        refusal: 0,
-        scale: h.scale,
-        inputs: h.inputs as u16,
-        outputs: h.outputs as u16,
-        instructions: h.instructions as u32,
-    }
-}
-
-pub fn formula_told(c: Checked) -> MarginsFormula
+pub fn formula_told(c: Result<Header, Refusal>) -> MarginsFormula
     requires { CheckedInLimits c }
     ensures { result ≡ margins_formula (check_answer c) }
 {
     match c {
-        Checked::Formula(h) => headed(h),
-        Checked::Refused(r) => MarginsFormula {
+        Ok(h) => MarginsFormula {
+            refusal: 0,
+            scale: h.scale,
+            inputs: h.inputs as u16,
+            outputs: h.outputs as u16,
+            instructions: h.instructions as u32,
+        },
+        Err(r) => MarginsFormula {
             refusal: number_of(r),
             scale: 0,
             inputs: 0,

@@ -1,35 +1,18 @@
 -- Number j of each reading line, gathered line by line: the lines by the first LF. Assumes nothing.
-use mathlib.Core.Path.{◌≡◌, refl, sym, ◌∙◌, ap, ap₂}
-use mathlib.Core.List.{List, [], ◌∷◌}
-use mathlib.Core.Option.{Option, none, some}
-use Prim.Native.Nat.{ℕ, suc, ◌+◌, ◌-◌, ◌^◌, ◌≤◌, ◌<◌}
-use native.Mathlib.Omega.{arith}
-use borrow.Author.Rules.{part_to_end}
-use lib.IntN.{ℤ}
-use lib.ListN.{length, take, drop, set, length-drop}
-use lib.Seq.{drop-cons, drop-drop, length-take-le}
-use lib.Signed.{mag}
-use mir.Syntax.{w64}
-use mir.Val.{Fits, hbits}
-use mir.ValLaws.{to_z-of_z}
+use Rattle.std.proofs.Common.{◌≡◌, ℕ, ◌+◌, ◌<◌, ◌≤◌, refl, sym, ◌∙◌, ap, Bool, true, false, eqb, List, [], ◌∷◌, length, set, eqb-true, ℤ, arith, SFits, w64, to_z-of_z, Option, Some, None}
+use borrow.Author.Tests.{eqb-false}
 use Rattle.whole.proofs.Machine.{back}
-use Rattle.parsing.specs.declared.Found.{Found}
-use Rattle.parsing.specs.declared.Found.TheVariants.{At, Nothing}
-use Rattle.parsing.specs.declared.Number.{Number}
-use Rattle.parsing.specs.declared.Number.TheVariants as Number
-use Rattle.parsing.specs.declared.Gathered.TheVariants.{Got, Malformed}
 use Rattle.parsing.specs.Lines.{LF, some_then, until_none, lines}
-use Rattle.parsing.specs.Cut.{Halves, cut}
-use Rattle.parsing.specs.ParsingAnswers.{number_answer, Finds, Gathers}
-use Rattle.parsing.proofs.Cuts.{lined, lines_cut, ended_by, ended_cut, found_none, found_at, found_within}
-use Rattle.parsing.proofs.Gathering.{put_before, first_then, Gathering}
-use Rattle.parsing.proofs.Gathering.{gathered_room, gathered_one, gathered_all, gathered_malformed}
+use Rattle.parsing.specs.Cut.{Halves, in_halves, cut}
+use Rattle.parsing.specs.ParsingAnswers.{Gathers}
+use Rattle.parsing.proofs.Cuts.{lined, lines_cut, ended_by, ended_cut, cut_long}
+use Rattle.parsing.proofs.Gathering.{first_then, Gathering, gathered_room, gathered_one, gathered_all, gathered_malformed}
 use Rattle.rows.specs.Rows.{row, number_of, each_row, column, column_of, rows_front, column_front}
 use Rattle.rows.proofs.Numbers.{row_some}
 
 module _ (k j : ℕ) where
   abbrev columned : Option (List (List ℤ)) → Option (List ℤ)
-  columned o = some_then o (λ rows. some (column j rows))
+  columned o = some_then o (λ rows. Some (column j rows))
 
   of_lines : Option (List (List ℕ)) → Option (List ℤ)
   of_lines o = columned (some_then o (each_row k))
@@ -38,25 +21,32 @@ module _ (k j : ℕ) where
   unfolding of_lines
   by_cut s e = ap of_lines (lines_cut s ∙ ap (lined [] s) e)
 
-  column_open : (s : List ℕ) (at : ℕ) → at < length s → cut LF (drop at s) ≡ none → column_of k j (drop at s) ≡ none
-  unfolding of_lines
-  column_open s at l e = by_cut (drop at s) e ∙ ap (λ r. of_lines (lined [] r none)) (drop-cons s at 0 l)
-
   rows_one : (line : List ℕ) (x : Option ℤ) → number_of j (row k line) ≡ x → (o : Option (List (List ℕ)))
-      → of_lines (some_then o (λ ls. some (line ∷ ls))) ≡ first_then x (of_lines o)
+      → of_lines (some_then o (λ ls. Some (line ∷ ls))) ≡ first_then x (of_lines o)
   unfolding of_lines
-  rows_one line x e none = nothing x
+  rows_one line x e None = nothing x
     where
-      nothing : (x : Option ℤ) → none ≡ first_then x none
-      nothing none = refl
-      nothing (some v) = refl
-  rows_one line x e (some ls) = by_row (row k line) e (each_row k ls)
+      nothing : (x : Option ℤ) → None ≡ first_then x None
+      nothing None = refl
+      nothing (Some v) = refl
+  rows_one line x e (Some ls) = by_row (row k line) e (each_row k ls)
     where
       by_row : (r : Option (List ℤ)) → number_of j r ≡ x → (rest : Option (List (List ℤ)))
-          → columned (some_then r (λ xs. some_then rest (λ rows. some (xs ∷ rows)))) ≡ first_then x (columned rest)
-      by_row none d rest = ap (λ (x : Option ℤ). first_then x (columned rest)) d
-      by_row (some xs) d none = ap (λ (x : Option ℤ). first_then x none) d
-      by_row (some xs) d (some rows) = ap (λ (x : Option ℤ). first_then x (some (column j rows))) d
+          → columned (some_then r (λ xs. some_then rest (λ rows. Some (xs ∷ rows)))) ≡ first_then x (columned rest)
+      by_row None d rest = ap (λ (x : Option ℤ). first_then x (columned rest)) d
+      by_row (Some xs) d None = ap (λ (x : Option ℤ). first_then x None) d
+      by_row (Some xs) d (Some rows) = ap (λ (x : Option ℤ). first_then x (Some (column j rows))) d
+
+  -- the first line, then the others; or a line that is begun and not ended
+  column_cut : (s : List ℕ) {h : Halves} → cut LF s ≡ Some h → {x : Option ℤ} → number_of j (row k h.front) ≡ x
+      → column_of k j s ≡ first_then x (column_of k j h.rest)
+  unfolding of_lines
+  column_cut s {h} e {x} d = by_cut s e ∙ rows_one h.front x d (lines h.rest)
+
+  column_open : (s : List ℕ) → 0 < length s → cut LF s ≡ None → column_of k j s ≡ None
+  unfolding of_lines
+  column_open [] l e = absurd (omega arith)
+  column_open (b ∷ s) l e = by_cut (b ∷ s) e
 
   abbrev front_by : Option Halves → List ℤ
   front_by o = rows_front k j (ended_by [] o)
@@ -64,82 +54,36 @@ module _ (k j : ℕ) where
   front_cut : (s : List ℕ) {o : Option Halves} → cut LF s ≡ o → column_front k j s ≡ front_by o
   front_cut s e = ap (rows_front k j) (ended_cut s) ∙ ap front_by e
 
-  -- the first line, then the others
-  column_cut : (s : List ℕ) {h : Halves} → cut LF s ≡ some h → {x : Option ℤ} → number_of j (row k h.front) ≡ x
-      → column_of k j s ≡ first_then x (column_of k j h.rest)
-  unfolding of_lines
-  column_cut s {h} e {x} d = by_cut s e ∙ rows_one h.front x d (lines h.rest)
-
--- the end of the line that begins at a place, found in the text from there on
-module _ (s : List ℕ) (at : ℕ) {r : Found} (f : Finds LF (take (length s - at) (drop at s)) r)
-    {e : ℕ} (there : r ≡ At e) where
-  end_within : at + e < length s
-  end_within =
-      let l = found_within f there in
-      omega (arith, l, ap length (part_to_end s at) ∙ length-drop at s)
-
-  pub line_fits : at + e ≤ length s
-  line_fits = let l = end_within in omega arith
-
-  pub end_fits : length s < 2 ^ 64 → Fits w64 (at + e)
-  end_fits small = record { fits = omega (arith, end_within) }
-
-  pub past_fits : length s < 2 ^ 64 → Fits w64 (at + e + 1)
-  past_fits small = record { fits = omega (arith, end_within) }
-
-  pub less_left : length s - (at + e + 1) < length s - at
-  less_left = omega (arith, end_within)
-
-  -- the line is not empty where a number stands on it
-  line_end : (k j : ℕ) {x : ℤ} → number_of j (row k (take e (take (length s - at) (drop at s)))) ≡ some x → 1 ≤ e
-  line_end k j d =
-      let rest = take (length s - at) (drop at s) in
-      let l = found_within f there in
-      omega (arith, row_some (take e rest) k j d, length-take-le e rest (omega (arith, l)))
-
-module _ (k j : ℕ) {s : List ℕ} {at n : ℕ} {old new : List ℤ} (g : Gathering (column_of k j) (column_front k j) s at old new n) where
-  pub column_all : length s ≤ at → Gathers (column_of k j s) (column_front k j s) old new (Got n)
+module _ (k j : ℕ) {s rest : List ℕ} {n : ℕ} {old new : List ℤ}
+    (g : Gathering (column_of k j) (column_front k j) s rest old new n) {empty : Bool} (tested : empty ≡ eqb (length rest) 0) where
+  pub column_all : empty ≡ true → Gathers (column_of k j s) (column_front k j s) old new (Some n)
   unfolding lines
-  column_all l = gathered_all g refl l
+  column_all e = by_rest rest refl
+    where
+      by_rest : (r : List ℕ) → rest ≡ r → Gathers (column_of k j s) (column_front k j s) old new (Some n)
+      by_rest [] q = gathered_all g (ap (column_of k j) q)
+      by_rest (b ∷ r) q = let none : length rest ≡ 0 = eqb-true (length rest) 0 (sym tested ∙ e) in absurd (omega (arith, ap length q))
 
-  module _ (more : at < length s) {r : Found} (f : Finds LF (take (length s - at) (drop at s)) r) where
-    pub column_unended : r ≡ Nothing → Gathers (column_of k j s) (column_front k j s) old new Malformed
-    column_unended e =
-        let uncut = ap (cut LF) (sym (part_to_end s at)) ∙ found_none f e in
-        gathered_malformed g (column_open k j s at more uncut) (front_cut k j (drop at s) uncut)
+  module _ (more : empty ≡ false) where
+    some_left : 0 < length rest
+    some_left = let d : length rest ≡ 0 → ⊥ = eqb-false (length rest) 0 (sym tested ∙ more) in omega arith
 
-    module _ (q : Number) {e : ℕ} (there : r ≡ At e)
-        (d : number_answer q ≡ number_of j (row k (take (at + e - at) (drop at s)))) where
-      line_is : number_of j (row k (take e (take (length s - at) (drop at s)))) ≡ number_answer q
-      line_is =
-          let z : at + e - at ≡ e = omega arith in
-          ap₂ (λ (n : ℕ) (l : List ℕ). number_of j (row k (take n l))) (sym z) (part_to_end s at) ∙ sym d
+    pub column_unended : cut LF rest ≡ None → {r : Option ℕ} → r ≡ None → Gathers (column_of k j s) (column_front k j s) old new r
+    column_unended uncut e = rw e (gathered_malformed g (column_open k j rest some_left uncut) (front_cut k j rest uncut))
 
-      first_line : (q' : Number) → q ≡ q'
-          → column_of k j (drop at s) ≡ first_then (number_answer q') (column_of k j (drop (at + e + 1) s))
-      first_line q' b =
-          let z : at + suc e ≡ at + e + 1 = omega arith in
-          let rest = ap (drop (suc e)) (part_to_end s at) ∙ drop-drop (suc e) at s ∙ ap (λ n. drop n s) z in
-          column_cut k j (drop at s) (ap (cut LF) (sym (part_to_end s at)) ∙ found_at f there) line_is
-          ∙ ap₂ (λ (q : Number) (t : List ℕ). first_then (number_answer q) (column_of k j t)) b rest
+    module _ {line behind : List ℕ} (there : cut LF rest ≡ Some (in_halves line behind)) {v : Option ℤ} (d : v ≡ number_of j (row k line)) where
+      first_line : {o : Option ℤ} → v ≡ o → column_of k j rest ≡ first_then o (column_of k j behind)
+      first_line e = column_cut k j rest there (sym d ∙ e)
 
-      front_line : (q' : Number) → q ≡ q'
-          → column_front k j (drop at s) ≡ until_none (number_answer q') (column_front k j (drop (at + e + 1) s))
-      front_line q' b =
-          let z : at + suc e ≡ at + e + 1 = omega arith in
-          let rest = ap (drop (suc e)) (part_to_end s at) ∙ drop-drop (suc e) at s ∙ ap (λ n. drop n s) z in
-          front_cut k j (drop at s) (ap (cut LF) (sym (part_to_end s at)) ∙ found_at f there)
-          ∙ ap₂ (λ (o : Option ℤ) (t : List ℕ). until_none o (column_front k j t)) (line_is ∙ ap number_answer b) rest
+      front_line : {o : Option ℤ} → v ≡ o → column_front k j rest ≡ until_none o (column_front k j behind)
+      front_line e = front_cut k j rest there ∙ ap (λ o. until_none o (column_front k j behind)) (sym d ∙ e)
 
-      pub column_bad : q ≡ Number.Malformed → Gathers (column_of k j s) (column_front k j s) old new Malformed
-      column_bad b = gathered_malformed g (first_line Number.Malformed b) (front_line Number.Malformed b)
+      pub column_bad : v ≡ None → {r : Option ℕ} → r ≡ None → Gathers (column_of k j s) (column_front k j s) old new r
+      column_bad b q = rw q (gathered_malformed g (first_line b) (front_line b))
 
-      pub column_one : {x : ℤ} → q ≡ Number.Got x → mag x < 2 ^ hbits w64 → length s ≤ length old + length old
-          → Gathering (column_of k j) (column_front k j) s (at + e + 1) old (set new n (back x)) (n + 1)
-      column_one {x} b small room =
-          let one = line_end s at f there k j (line_is ∙ ap number_answer b) in
-          let inside = end_within s at f there in
-          let held = sym (to_z-of_z w64 x (record { sfits = small })) in
-          gathered_one g (back x) (gathered_room g more room) (omega arith) (omega arith)
-          (first_line (Number.Got x) b ∙ ap (λ (y : ℤ). put_before (y ∷ []) (column_of k j (drop (at + e + 1) s))) held)
-          (front_line (Number.Got x) b ∙ ap (λ (y : ℤ). y ∷ column_front k j (drop (at + e + 1) s)) held)
+      pub column_one : {x : ℤ} → v ≡ Some x → SFits w64 x → length s ≤ length old + length old
+          → Gathering (column_of k j) (column_front k j) s behind old (set new n (back x)) (n + 1)
+      column_one {x} b fits room =
+          let one = row_some line k j (sym d ∙ b) in
+          let same = b ∙ ap Some (sym (to_z-of_z fits)) in
+          gathered_one g (back x) (gathered_room g some_left room) (omega (arith, cut_long LF rest there, one)) (first_line same) (front_line same)

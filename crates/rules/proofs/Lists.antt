@@ -10,7 +10,7 @@ use Rattle.lists.specs.Over.{over}
 use Rattle.lists.specs.Each.{Each}
 use Rattle.lists.specs.Joined.{joined}
 use Rattle.lists.proofs.PartOf.{PartOf, field_of, part_start, part_more, part_again, part_front, part_long, part_picked}
-use Rattle.lists.proofs.Joined.{joined_at, joined_long, joined_first, joined_second, joined_parts}
+use Rattle.lists.proofs.Joined.{joined_at, joined_inside, joined_long, joined_first, joined_second, joined_parts}
 use Rattle.rules.specs.declared.Ball.{Ball}
 use Rattle.rules.specs.declared.Matryoshka.{Matryoshka}
 use Rattle.rules.specs.Balls.{ball}
@@ -49,6 +49,11 @@ pub balls_at : (n i : ℕ) (cs : List ℤ) (rs : List ℕ) → i < n → n ≤ l
     → get_or (balls (take n cs) (take n rs)) i no_ball ≡ ball (get_or (take n cs) i (pos 0)) (get_or (take n rs) i 0)
 balls_at n i cs rs l p q =
     joined_at ball (take n cs) (take n rs) i (pos 0) 0 (omega (arith, length-take-le n cs p)) (omega (arith, length-take-le n rs q))
+
+-- also where one list is longer
+pub ball_at : (cs : List ℤ) (rs : List ℕ) (i : ℕ) → i < length cs → i < length rs
+    → get_or (balls cs rs) i no_ball ≡ ball (get_or cs i (pos 0)) (get_or rs i 0)
+ball_at cs rs i p q = joined_at ball cs rs i (pos 0) 0 p q
 
 pub balls_many : (n : ℕ) (cs : List ℤ) (rs : List ℕ) → n ≤ length cs → n ≤ length rs → length (balls (take n cs) (take n rs)) ≡ n
 balls_many n cs rs p q = balls_long (take n cs) (take n rs) (length-take-le n cs p ∙ sym (length-take-le n rs q)) ∙ length-take-le n cs p
@@ -153,6 +158,12 @@ module _ (cs : List ℤ) (ss rs : List ℕ) (e : length cs ≡ length ss) (g : l
   matryoshki_at_long i p =
       joined_at as_matryoshka cs (sides ss rs) i (pos 0) (0, 0) p (omega (arith, long_sides))
       ∙ ap (as_matryoshka (get_or cs i (pos 0))) (joined_at (λ s r. (s, r)) ss rs i 0 0 (omega (arith, e)) (omega (arith, g)))
+
+pub matryoshka_at : (cs : List ℤ) (ss rs : List ℕ) (i : ℕ) → i < length cs → i < length ss → i < length rs
+    → get_or (matryoshki cs ss rs) i no_matryoshka ≡ matryoshka (get_or cs i (pos 0)) (get_or ss i 0) (get_or rs i 0)
+matryoshka_at cs ss rs i p q t =
+    joined_at as_matryoshka cs (sides ss rs) i (pos 0) (0, 0) p (joined_inside (λ s r. (s, r)) ss rs i q t)
+    ∙ ap (as_matryoshka (get_or cs i (pos 0))) (joined_at (λ s r. (s, r)) ss rs i 0 0 q t)
 
 pub matryoshki_again : (ms : List Matryoshka) → matryoshki (middles_of ms) (strays_of ms) (static_margins_of ms) ≡ ms
 matryoshki_again ms =

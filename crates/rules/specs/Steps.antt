@@ -1,16 +1,13 @@
 -- A step's answer: its result where that is there and within reach; and what each case of the code's answers stands
 -- for.
 use Rattle.std.specs.Prelude.{◌≡◌, Bool, cond, ℕ, leb, ℤ}
+use Rattle.std.specs.declared.result.Result.{Result}
+use Rattle.refusals.specs.declared.Refusal.{Refusal}
 use Rattle.rules.specs.declared.Ball.{Ball}
 use Rattle.rules.specs.declared.Matryoshka.{Matryoshka}
-use Rattle.rules.specs.declared.PlainStep.{PlainStep}
-use Rattle.rules.specs.declared.PlainStep.TheVariants as plain
-use Rattle.rules.specs.declared.BallStep.{BallStep}
-use Rattle.rules.specs.declared.BallStep.TheVariants as ball
-use Rattle.rules.specs.declared.MatryoshkaStep.{MatryoshkaStep}
-use Rattle.rules.specs.declared.MatryoshkaStep.TheVariants as matryoshka
 use Rattle.refusals.specs.declared.Refusal.TheVariants.{OutOfReach, MayBeZero}
 use Rattle.refusals.specs.Answer.{Answer, value, refuse}
+use Rattle.refusals.specs.Places.{says_bare}
 use Rattle.rules.specs.Numbers.{M}
 use Rattle.rules.specs.Operation.{Operation, divides_by_zero}
 
@@ -23,17 +20,23 @@ abbrev pub step_answer : {A : Type 0} → (A → Bool) → (A → ℕ) → Opera
 step_answer may_be_zero reach o a =
     cond (divides_by_zero may_be_zero o) (refuse MayBeZero) (within_reach reach a)
 
+abbrev pub PlainStep : Type 0
+PlainStep = Result ℤ Refusal
+
+abbrev pub BallStep : Type 0
+BallStep = Result Ball Refusal
+
+abbrev pub MatryoshkaStep : Type 0
+MatryoshkaStep = Result Matryoshka Refusal
+
 abbrev pub plain_answer : PlainStep → Answer ℤ
-plain_answer (plain.Value x) = value x
-plain_answer (plain.Refused r) = refuse r
+plain_answer = says_bare
 
 abbrev pub ball_answer : BallStep → Answer Ball
-ball_answer (ball.Value b) = value b
-ball_answer (ball.Refused r) = refuse r
+ball_answer = says_bare
 
 abbrev pub matryoshka_answer : MatryoshkaStep → Answer Matryoshka
-matryoshka_answer (matryoshka.Value m) = value m
-matryoshka_answer (matryoshka.Refused r) = refuse r
+matryoshka_answer = says_bare
 
 -- the answer to an instruction whose rule does not look at the scale
 pub record AtEveryScale {A : Type 0} (rule : ℕ → Operation A → Answer A) (o : Operation A)

@@ -1,38 +1,31 @@
-// The values that the rules speak of, and a step's answer in each of the three kinds. The rules themselves are in
-// specs/.
+// The values that the rules speak of. The rules themselves are in specs/.
 #![tactic(auto)]
 
-use refusals::Refusal;
+use std::fmt;
 
 // A centre and a margin, in units of 2^-F.
-#[derive(Clone, Copy)]
+#[derive(Clone, Copy, Debug, PartialEq, Eq)]
 pub struct Ball {
     pub centre: i64,
     pub margin: u64,
 }
 
 // A middle, how far a computed centre may stray from it, and the static margin.
-#[derive(Clone, Copy)]
+#[derive(Clone, Copy, Debug, PartialEq, Eq)]
 pub struct Matryoshka {
     pub middle: i64,
     pub stray: u64,
     pub margin: u64,
 }
 
-#[derive(Clone, Copy)]
-pub enum PlainStep {
-    Value(i64),
-    Refused(Refusal),
+impl fmt::Display for Ball {
+    fn fmt<W: fmt::Write>(&self, f: &mut fmt::Formatter<W>) -> fmt::Result {
+        write!(f, "{} {}", self.centre, self.margin)
+    }
 }
 
-#[derive(Clone, Copy)]
-pub enum BallStep {
-    Value(Ball),
-    Refused(Refusal),
-}
-
-#[derive(Clone, Copy)]
-pub enum MatryoshkaStep {
-    Value(Matryoshka),
-    Refused(Refusal),
+impl fmt::Display for Matryoshka {
+    fn fmt<W: fmt::Write>(&self, f: &mut fmt::Formatter<W>) -> fmt::Result {
+        write!(f, "{} {} {}", self.middle, self.stray, self.margin)
+    }
 }

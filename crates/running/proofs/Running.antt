@@ -6,9 +6,11 @@ use native.Mathlib.Omega.{arith}
 use lib.ListN.{length, get_or, length-map}
 use Rattle.lists.specs.Each.{Each}
 use Rattle.lists.specs.All.{All}
-use Rattle.refusals.specs.declared.Refusal.{Refusal}
-use Rattle.refusals.specs.declared.Reply.{Reply}
-use Rattle.refusals.specs.declared.Reply.TheVariants.{Done, Refused}
+use Rattle.std.specs.declared.result.Result.TheVariants.{Ok, Err}
+use Rattle.refusals.specs.declared.Refused.{Refused}
+use Rattle.refusals.specs.Said.{Reply}
+use Rattle.refusals.proofs.OneReply.{passed_on}
+use Rattle.std.specs.Prelude.{IsErrAnd}
 use Rattle.refusals.specs.Answer.{value}
 use Rattle.refusals.specs.Said.{answered}
 use Rattle.refusals.proofs.Answers.{first_of, same_value, then_value}
@@ -18,15 +20,16 @@ use Rattle.formulas.specs.Formula.{Formula, places}
 use Rattle.formulas.specs.Run.{Walk, finished, stopped, run, made_by, walk_end}
 use Rattle.formulas.specs.Kinds.{Kind, tested}
 use Rattle.formulas.specs.Job.{Started, Result, done, walk_ended, started_run, work_of, outputs_of, said, Lent, lent, lent_start, Kept}
+use Rattle.formulas.proofs.Fitting.{let_in}
 use Rattle.formulas.proofs.Walks.{run_long, run_longer}
-use Rattle.formulas.proofs.Lawful.{Values, Lawful}
+use Rattle.formulas.specs.Lawful.{Values, Lawful}
 use Rattle.formulas.proofs.Jobs.{starts, job_started, ends_stopped, ends_done}
 use Rattle.packed.specs.Meaning.{formula, meant, checked}
 use Rattle.packed.proofs.Formed.{Formed, formed, limits_of, meant_is}
-use Rattle.walks.specs.declared.Walked.{Walked}
-use Rattle.walks.specs.declared.Walked.TheVariants.{Finished, Stopped}
-use Rattle.walks.specs.Walks.{walked_said, walk_of, Walks}
-use Rattle.outputs.specs.Picking.{Pickable}
+use Rattle.walks.specs.Walks.{Walked}
+use Rattle.walks.specs.Walks.{walked_said, Walkable, walk_of, Walks}
+use Rattle.outputs.specs.Picking.{Pickable, Picks}
+use Rattle.walks.specs.Copying.{Copyable, Copies}
 use Rattle.running.specs.Ready.{Begins, Finishable, Finishes}
 
 -- the formula and the values that a run starts on
@@ -59,8 +62,8 @@ begun_by {K} {s} {h} {given} {old} b =
 
 -- from the inputs in front of the work lists to the end
 module _ {K : Kind} (law : Lawful K) {s : List ℕ} {h : Header} {work output new : K.Lists} {r : Walked} (w : Walks K s h work new r) where
-  pub finish_stopped : {q : Refusal} {k : ℕ} → r ≡ Stopped q k → Finishable K s h (lent K work output)
-      → Finishes K s h (lent K work output) (lent K new output) (Refused q k)
+  pub finish_stopped : {e : Refused} → r ≡ Err e → Finishable K s h (lent K work output)
+      → Finishes K s h (lent K work output) (lent K new output) (Err e)
   finish_stopped t f =
       let e = ends_stopped K.nothing (meant s) (walk_of K s h work) (sym (ap walked_said t) ∙ w.says ∙ counts) in
       record { says = ap said (sym e); works = w.holds; gives = subst (λ (j : Result K.Value). K.Holds (outputs_of j) output output) (sym e) (law.holds_none output) }
@@ -68,7 +71,7 @@ module _ {K : Kind} (law : Lawful K) {s : List ℕ} {h : Header} {work output ne
       counts : walk_end h.inputs (walk_of K s h work) ≡ walk_end (meant s).header.inputs (walk_of K s h work)
       counts = ap (λ (g : Header). walk_end g.inputs (walk_of K s h work)) (sym (formed s f.walkable.is_formula).is_header)
 
-  module _ {d : Cursor} (t : r ≡ Finished d) (f : Finishable K s h (lent K work output)) where
+  module _ {d : Cursor} (t : r ≡ Ok d) (f : Finishable K s h (lent K work output)) where
     there : Formed s h
     there = formed s f.walkable.is_formula
 
@@ -102,7 +105,7 @@ module _ {K : Kind} (law : Lawful K) {s : List ℕ} {h : Header} {work output ne
 
     -- the outputs hold what the walk's values are at the places named
     pub finish_done : {out : K.Lists} → K.Holds (map (λ o. get_or (made_by (walk_of K s h work)) o K.nothing) (meant s).results) output out
-        → Finishes K s h (lent K work output) (lent K new out) (Done h.outputs)
+        → Finishes K s h (lent K work output) (lent K new out) (Ok h.outputs)
     finish_done {out} o =
         record {
           says =
@@ -159,3 +162,52 @@ module _ {K : Kind} (law : Lawful K) {s : List ℕ} {h : Header} {given : K.Read
       work_made : (x : Walk K.Value) → work_of (walk_ended K.nothing (meant s) x) ≡ made_by x
       work_made (finished vs) = refl
       work_made (stopped n vs) = refl
+
+-- the run in the code's shape: readings copied, instructions walked, outputs picked
+module _ {K : Kind} (law : Lawful K) {s : List ℕ} {h : Header} {given : K.Readings} {work output : K.Lists}
+    (b : Begins K s h given (lent K work output)) where
+  begun_on : Begun K s h given (lent K work output)
+  begun_on = begun_by b
+
+  values_are : K.values given ≡ begun_on.values
+  values_are = (let_in K h.inputs given begun_on.fits).1
+
+  pub run_copyable : Copyable K h.inputs given work
+  run_copyable =
+      record {
+        passed = begun_on.fits ∙ ap value (sym values_are);
+        room = omega (arith, begun_on.work_room);
+      }
+
+  module _ {now : K.Lists} (c : Copies K given work now) where
+    copied : Copied K s h given (lent K work output) now
+    copied = record { begun_on = begun_on; holds = subst (λ (vs : List K.Value). K.Holds vs work now) values_are c.holds }
+
+    pub run_walkable : Walkable K s h now
+    run_walkable = (copied_finishable law copied).walkable
+
+    module _ {new : K.Lists} {r : Walked} (w : Walks K s h now new r) where
+      pub run_stops : {out : K.Lists} {e : Refused} {q : Reply} → out ≡ output → r ≡ Err e → IsErrAnd q (λ x. x ≡ e)
+          → Kept K (formula s) given (lent K work output) (lent K new out) q
+      run_stops {q = q} same t u =
+          subst (λ (l : K.Lists). Kept K (formula s) given (lent K work output) (lent K new l) q) (sym same)
+          (subst (λ (q : Reply). Kept K (formula s) given (lent K work output) (lent K new output) q) (sym (passed_on u))
+          (copied_kept law copied (finish_stopped law w t (copied_finishable law copied))))
+
+      module _ {d : Cursor} (t : r ≡ Ok d) {mid : K.Lists} (same : mid ≡ output) where
+        pub run_pickable : Pickable s d h.outputs (K.room new) (K.room mid)
+        run_pickable =
+            subst (λ (l : K.Lists). Pickable s d h.outputs (K.room new) (K.room l)) (sym same) (finish_pickable law w t (copied_finishable law copied))
+
+        pub run_done : {last out : K.Lists} → last ≡ new → Picks K s new mid out → Kept K (formula s) given (lent K work output) (lent K last out) (Ok h.outputs)
+        run_done {last} {out} still p =
+            subst (λ (l : K.Lists). Kept K (formula s) given (lent K work output) (lent K l out) (Ok h.outputs)) (sym still)
+            (copied_kept law copied
+            (finish_done law w t (copied_finishable law copied)
+            (subst (λ (l : K.Lists). K.Holds (map (λ o. get_or (made_by (walk_of K s h now)) o K.nothing) (meant s).results) l out) same
+            (subst (λ (vs : List K.Value). K.Holds (map (λ o. get_or vs o K.nothing) (meant s).results) mid out) made_seen p.holds))))
+          where
+            made_seen : K.front (places (meant s).header) new ≡ made_by (walk_of K s h now)
+            made_seen =
+                law.front_holds (made_by (walk_of K s h now)) (places (meant s).header) now new
+                (all_made law w t (copied_finishable law copied) ∙ ap places (sym begun_on.is_header)) w.holds

@@ -1,10 +1,11 @@
 -- "1 to 8 come in file order", then 13 to 15, then 10: when a run is ready for its first step.
 use Rattle.std.specs.Prelude.{◌≡◌, List, ℕ, ◌≤◌}
-use Rattle.refusals.specs.declared.Verdict.{Verdict}
-use Rattle.refusals.specs.declared.Reply.{Reply}
+use Rattle.std.specs.declared.result.Result.{Result}
+use Rattle.refusals.specs.declared.Refused.{Refused}
+use Rattle.refusals.specs.Said.{Reply}
 use Rattle.refusals.specs.Said.{reply_said}
 use Rattle.refusals.specs.Answer.{value, then}
-use Rattle.refusals.specs.Places.{Placed, elsewhere, refuse_at, verdict_says}
+use Rattle.refusals.specs.Places.{Placed, Verdict, says, verdict_says, elsewhere}
 use Rattle.formulas.specs.declared.Header.{Header}
 use Rattle.formulas.specs.Run.{made_by}
 use Rattle.formulas.specs.Kinds.{Kind}
@@ -12,12 +13,13 @@ use Rattle.formulas.specs.Job as job
 use Rattle.formulas.specs.Job.{Started, roomy, if_room, walk_ended, outputs_of, said, Lent, lent_start}
 use Rattle.packed.specs.Meaning.{formula, meant}
 use Rattle.walks.specs.Walks.{Walkable, walk_of}
-use Rattle.running.specs.declared.Start.{Start}
-use Rattle.running.specs.declared.Start.TheVariants as start
+
+-- the header of a formula that a run starts on, or why it does not start and at which place
+abbrev pub Start : Type 0
+Start = Result Header Refused
 
 abbrev pub start_says : Start → Placed Header
-start_says (start.On h) = value h
-start_says (start.Refused q k) = refuse_at q k
+start_says = says
 
 -- the refusal of the readings, then 10 where there is too little room
 pub record Tests (h : Header) (fit : Verdict) (work output : ℕ) (r : Start) : Type 0 where

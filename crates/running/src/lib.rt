@@ -1,43 +1,58 @@
-// What the three runs share: the tests between a formula that was read and its first step. The laws are in proofs/.
+// A run of any kind: the formula checked, its readings tested, and all carried out; or the numbered refusal. Nothing has
+// to be checked first.
 #![tactic(auto)]
 
 ghost use Rattle.std.specs.Prelude.{◌≡◌};
-ghost use Rattle.formulas.specs.Job.{roomy};
-ghost use Rattle.running.specs.Ready.{Tests};
+ghost use Rattle.formulas.specs.Job.{roomy, lent, Kept};
+ghost use Rattle.packed.specs.Meaning.{formula};
+ghost use Rattle.running.specs.Ready.{Ready, Begins};
 
+use checking::checking::check;
 use formulas::Header;
-use refusals::{Refusal, Verdict};
-
-// The header of a formula that a run starts on, or why it does not start and at which place.
-#[derive(Clone, Copy)]
-pub enum Start {
-    On(Header),
-    Refused(Refusal, usize),
-}
+use outputs::pick;
+use refusals::{Refusal, Refused};
+use walks::{Job, copy, walk};
 
 // m+l places to work in and n for the outputs.
 fn enough(h: Header, work: usize, output: usize) -> bool
     ensures { result ≡ roomy h work output }
 {
-    if work < h.inputs {
-        return false;
-    }
-    if work - h.inputs < h.instructions {
-        return false;
-    }
-    output >= h.outputs
+    h.inputs <= work && h.instructions <= work - h.inputs && h.outputs <= output
 }
 
-// The header where its readings passed and there is room for its values, or the refusal.
-pub fn tested(h: Header, fit: Verdict, work: usize, output: usize) -> Start
-    ensures { Tests h fit work output result }
+// The header of a formula that can be carried out on these readings, with so many places for the outputs, or the refusal.
+pub fn ready<J: Job>(s: &[u8], job: &J, output: usize) -> Result<Header, Refused>
+    ensures { Ready J.kind s.now (J.given job.now) (J.kind.room (J.work job.now)) output result }
 {
-    let room = enough(h, work, output);
-    if let Verdict::Refused(q, k) = fit {
-        return Start::Refused(q, k);
+    let h = check(s)?;
+    job.test(h.inputs)?;
+    if !enough(h, job.room(), output) {
+        return Err(Refusal::NoRoom.into());
     }
-    if !room {
-        return Start::Refused(Refusal::NoRoom, 0);
-    }
-    Start::On(h)
+    Ok(h)
+}
+
+// The formula on readings that fit, in memory that is enough.
+pub fn carry_out<J: Job>(s: &[u8], h: Header, job: &mut J) -> Result<usize, Refused>
+    requires { Begins J.kind s.now h (J.given job.old) (lent J.kind (J.work job.old) (J.output job.old)) }
+    ensures kept { Kept J.kind (formula s.now) (J.given job.old)
+        (lent J.kind (J.work job.old) (J.output job.old))
+        (lent J.kind (J.work job.new) (J.output job.new)) result }
+    ensures same_lists { J.names job.new ≡ J.names job.old }
+{
+    copy(h.inputs, job);
+    let end = walk(s, h, job)?;
+    pick(s, end, h.outputs, job);
+    Ok(h.outputs)
+}
+
+// The outputs for these readings, or the refusal.
+pub fn run<J: Job>(s: &[u8], job: &mut J) -> Result<usize, Refused>
+    ensures kept { Kept J.kind (formula s.now) (J.given job.old)
+        (lent J.kind (J.work job.old) (J.output job.old))
+        (lent J.kind (J.work job.new) (J.output job.new)) result }
+    ensures same_lists { J.names job.new ≡ J.names job.old }
+{
+    let h = ready(s, job, job.output_room())?;
+    carry_out(s, h, job)
 }

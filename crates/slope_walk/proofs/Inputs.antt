@@ -2,14 +2,12 @@
 use mathlib.Core.Path.{◌≡◌, refl, sym, ◌∙◌, ap}
 use mathlib.Core.List.{List}
 use Prim.Native.Nat.{ℕ, zero, suc, ◌+◌, ◌*◌, ◌/◌, ◌%◌, ◌≤◌, ◌<◌}
-use native.Mathlib.Nat.{le_of_suc-le-suc, not-suc-le-zero, mul-le-mul, div-add-mod', div-lt_iff_lt-mul, mod-lt}
+use native.Mathlib.Nat.{le_of_suc-le-suc, not-suc-le-zero, div-add-mod', div-lt_iff_lt-mul, mod-lt}
 use native.Mathlib.Omega.{arith}
 use lib.ListN.{length, get_or, set}
-use mir.Syntax.{w64}
-use mir.Val.{Fits}
 use Rattle.lists.specs.All.{All, none, one}
 use Rattle.lists.specs.Over.{over}
-use Rattle.lists.proofs.Front.{Filled, filled_none, filled_one, filled_all}
+use Rattle.lists.proofs.Front.{Filled, filled_one, filled_all}
 use Rattle.rules.specs.Numbers.{Q}
 use Rattle.cards.specs.Slopes.{input_slopes, inputs_from, all_inputs}
 use Rattle.cards.specs.Card.{flat}
@@ -65,25 +63,13 @@ pub record Starting (F m q : ℕ) (old now : List ℕ) (j : ℕ) : Type 0 where
   pub is_unit : q ≡ Q F
   pub filled : Filled (flat (all_inputs F m)) old now j
 
-pub all_fits : {F m : ℕ} {old : List ℕ} → Startable F m old → Fits w64 (m * m)
-all_fits p = record { fits = omega (arith, mul-le-mul p.inputs_few p.inputs_few) }
-
-pub starting_none : {F m q : ℕ} {old : List ℕ} → Startable F m old → q ≡ Q F → Starting F m q old old 0
-starting_none {F} {m} {old = old} p e = record { asked = p; is_unit = e; filled = filled_none (flat (all_inputs F m)) old }
-
 module _ {F m q : ℕ} {old now : List ℕ} {j : ℕ} (w : Starting F m q old now j) where
-  pub starting_long : length now ≡ length old
-  starting_long = w.filled.as_long
-
   pub starting_all : m * m ≤ j → now ≡ over (flat (all_inputs F m)) old
   starting_all l = filled_all (flat (all_inputs F m)) old (omega (arith, inputs_flat_long F m)) w.filled
 
   module _ (more : j < m * m) where
     pub some_inputs : 0 < m
     some_inputs = some_input F m more
-
-    pub starting_inside : j < length now
-    starting_inside = omega (arith, starting_long, w.asked.room)
 
     next : {v : ℕ} → v ≡ get_or (flat (all_inputs F m)) j 0 → Starting F m q old (set now j v) (j + 1)
     next e =

@@ -1,31 +1,27 @@
 -- A row of slopes laid place by place behind others, which stay; it is given up at the first over M. Assumes nothing.
 use mathlib.Core.Path.{◌≡◌, refl, sym, ◌∙◌, ap, ap₂}
-use mathlib.Core.Bool.{true, false}
-use mathlib.Core.List.{List, [], ◌∷◌, ◌++◌, map}
+use mathlib.Core.List.{List, [], ◌∷◌, ◌++◌}
 use Prim.Native.Nat.{ℕ, zero, suc, ◌+◌, ◌≤◌, ◌<◌, zero-le}
 use native.Mathlib.Nat.{le_of_suc-le-suc, not-suc-le-zero}
 use native.Mathlib.Numerals.{add-one}
 use native.Mathlib.Omega.{arith}
 use borrow.Author.Tests.{le-leb, lt-leb}
 use borrow.Author.Count.{below_more}
-use lib.ListN.{length, get_or, set, take, drop, get_or-append}
-use lib.Seq.{get_or-take, take_all, length-take-le, paste, paste-zero, paste-suc, length-paste, length_paste_head}
+use lib.ListN.{length, get_or, set, take, drop}
+use lib.Seq.{take_all, paste, paste-zero, paste-suc}
 use Rattle.lists.specs.Joined.{joined}
 use Rattle.rules.specs.Numbers.{M}
 use Rattle.cards.specs.Slopes.{largest}
 use Rattle.cards.proofs.Slopes.{largest_at}
-use Rattle.slope_walk.specs.Grading.{Laid}
+use Rattle.refusals.specs.declared.Refusal.TheVariants.{OutOfReach}
+use Rattle.std.specs.declared.result.Result.TheVariants.{Ok, Err}
+use Rattle.slope_walk.specs.Grading.{if_low, Laid}
 
 pub both_at : (f : ℕ → ℕ → ℕ) (ks ls : List ℕ) (j : ℕ) → j < length ks → j < length ls → get_or (joined f ks ls) j 0 ≡ f (get_or ks j 0) (get_or ls j 0)
 both_at f [] ls j p q = absurd (not-suc-le-zero p)
 both_at f (k ∷ ks) [] j p q = absurd (not-suc-le-zero q)
 both_at f (k ∷ ks) (l ∷ ls) zero p q = refl
 both_at f (k ∷ ks) (l ∷ ls) (suc j) p q = both_at f ks ls j (le_of_suc-le-suc p) (le_of_suc-le-suc q)
-
-pub each_at : (f : ℕ → ℕ) (ls : List ℕ) (j : ℕ) → j < length ls → get_or (map f ls) j 0 ≡ f (get_or ls j 0)
-each_at f [] j p = absurd (not-suc-le-zero p)
-each_at f (l ∷ ls) zero p = refl
-each_at f (l ∷ ls) (suc j) p = each_at f ls j (le_of_suc-le-suc p)
 
 pub low_all : (l : List ℕ) (n : ℕ) → ((j : ℕ) → j < length l → get_or l j 0 ≤ n) → largest l ≤ n
 low_all [] n h = zero-le
@@ -44,27 +40,10 @@ laying_start new_row {m} {at} old e r =
     record { as_many = e; room = r; some = zero-le; is = paste-zero old at new_row; low = λ j l. absurd (not-suc-le-zero l) }
 
 module _ {new_row : List ℕ} {m at : ℕ} {old now : List ℕ} {i : ℕ} (w : Laying new_row m at old now i) where
-  some_row : i ≤ length new_row
-  some_row = omega (arith, w.some, w.as_many)
-
-  inside : at ≤ length old
-  inside = omega (arith, w.room)
-
-  pub laying_long : length now ≡ length old
-  laying_long = ap length w.is ∙ length-paste old at new_row i (omega (arith, w.room, w.some)) some_row
-
-  -- the rows before it stay
-  pub laying_kept : (j : ℕ) → j < at → get_or now j 0 ≡ get_or old j 0
-  laying_kept j l =
-      ap (λ (k : List ℕ). get_or k j 0) w.is
-      ∙ get_or-append (take at old ++ take i new_row) (drop (at + i) old) 0 j (omega (arith, length_paste_head old at new_row i inside some_row))
-      ∙ get_or-append (take at old) (take i new_row) 0 j (omega (arith, length-take-le at old inside))
-      ∙ get_or-take at old j 0 l
-
-  pub laying_all : m ≤ i → Laid new_row at old now true
+  pub laying_all : m ≤ i → Laid new_row at old now (Ok tt)
   laying_all l =
       record {
-        fits = sym (le-leb (largest new_row) M (low_all new_row M (λ j k. w.low j (omega (arith, w.as_many)))));
+        fits = sym (ap if_low (le-leb (largest new_row) M (low_all new_row M (λ j k. w.low j (omega (arith, w.as_many))))));
         holds = λ t.
             w.is
             ∙ ap₂ (λ (r : List ℕ) (n : ℕ). take at old ++ r ++ drop n old) (take_all i new_row (omega (arith, w.as_many))) all_of_it;
@@ -87,9 +66,9 @@ module _ {new_row : List ℕ} {m at : ℕ} {old now : List ℕ} {i : ℕ} (w : L
           low = below_more (λ (j : ℕ). get_or new_row j 0 ≤ M) i w.low (omega (arith, e));
         }
 
-    pub laying_stops : M < v → Laid new_row at old now false
+    pub laying_stops : M < v → Laid new_row at old now (Err OutOfReach)
     laying_stops l =
         record {
-          fits = sym (lt-leb (largest new_row) M (omega (arith, e, largest_at new_row i)));
-          holds = λ t. absurd (let z : ◌≡◌ {A = ℕ} 0 1 = cc in omega arith);
+          fits = sym (ap if_low (lt-leb (largest new_row) M (omega (arith, e, largest_at new_row i))));
+          holds = λ t. absurd (cc);
         }

@@ -3,6 +3,5 @@ pub mod Single
 pub mod Laying
 pub mod Weighing
 pub mod Inputs
-pub mod Ranges
 pub mod Instructions
 pub mod Turns

@@ -6,17 +6,18 @@ use Prim.Native.Nat.{ℕ, zero, suc, ◌+◌, ◌-◌, ◌*◌, ◌^◌, ◌≤�
 use native.Mathlib.Nat.{mul-le-mul_right, add-mul}
 use native.Mathlib.Omega.{arith}
 use borrow.Author.Tests.{leb-true, leb-false}
+use lib.Dec.{leb}
 use lib.IntN.{ℤ, pos, nat_abs}
 use lib.ListN.{length, get_or, take, drop, length-append}
 use lib.Seq.{get_or-take}
-use mir.Syntax.{w64}
-use mir.Val.{Fits}
-use Rattle.whole.proofs.Cases.{less}
+use Rattle.std.specs.declared.result.Result.{Result}
+use Rattle.std.specs.declared.result.Result.TheVariants.{Ok, Err}
 use Rattle.lists.specs.All.{All}
 use Rattle.lists.specs.Each.{Each}
 use Rattle.lists.specs.Over.{over}
 use Rattle.lists.proofs.Each.{all_at, all_behind}
 use Rattle.lists.proofs.Over.{over_start, over_front, over_long, over_over}
+use Rattle.refusals.specs.declared.Refusal.{Refusal}
 use Rattle.refusals.specs.declared.Refusal.TheVariants.{OutOfReach}
 use Rattle.refusals.specs.Refusals.{refusal_number}
 use Rattle.refusals.specs.Said.{refuses}
@@ -44,7 +45,6 @@ use Rattle.packed.specs.declared.loaded.Loaded.{Loaded}
 use Rattle.packed.specs.Loading.{place_of, Loads}
 use Rattle.packed.proofs.Shapes.{decodes_place, readable_place}
 use Rattle.packed.proofs.Formed.{Formed, formed, limits_of}
-use Rattle.walks.specs.declared.Walked.TheVariants.{Finished, Stopped}
 use Rattle.walks.proofs.Onward.{Goes, Onward, onward_start, onward_readable, onward_smaller, onward_more, onward_stops, onward_ends}
 use Rattle.walks.proofs.Walking.{first, formula_near, formula_small, formula_whole, formula_each, formula_stands}
 use Rattle.cards.specs.Slopes.{inputs_from, all_inputs, largest, slopes_result, slopes_rule, with_slopes, slope_run}
@@ -52,7 +52,7 @@ use Rattle.cards.specs.Card.{flat, rows}
 use Rattle.cards.proofs.Weights.{Many}
 use Rattle.cards.proofs.Slopes.{largest_at, inputs_long, input_low, step_many}
 use Rattle.cards.proofs.Flat.{flat_long, flat_low, rows_flat}
-use Rattle.slope_walk.specs.Grading.{Layable, Laid, Ranged, Sloping, Agrees, Sloped, ranges, Gradable, Grades}
+use Rattle.slope_walk.specs.Grading.{if_low, Layable, Laid, Ranged, Sloping, Agrees, Sloped, ranges, Gradable, Grades}
 use Rattle.slope_walk.proofs.Inputs.{inputs_many, inputs_flat_long}
 
 -- the slopes are worked out one instruction after another
@@ -117,12 +117,6 @@ module _ {s : List ℕ} {h : Header} {cs : List ℤ} {rs : List ℕ} {c : Cursor
   small : h.inputs + k ≤ 528
   small = formula_small goes w.formula_there w.onward
 
-  pub grading_made : Fits w64 (h.inputs + k)
-  grading_made = record { fits = omega (arith, small) }
-
-  pub grading_next : Fits w64 (k + 1)
-  grading_next = record { fits = omega (arith, small) }
-
   front_long : length (flat w.made) ≡ (h.inputs + k) * h.inputs
   front_long = flat_long m w.each_many ∙ ap (λ (n : ℕ). n * m) w.many
 
@@ -171,8 +165,9 @@ module _ {s : List ℕ} {h : Header} {cs : List ℤ} {rs : List ℕ} {c : Cursor
       (run_settles (ball_rule F) no_ball F (meant s).program w.asked.started
       (subst (λ (n : ℕ). Each (Smaller F) n (meant s).program) (sym w.asked.as_many) smaller) w.asked.ranged)
 
-  pub grading_ends : k ≡ h.instructions → Grades s h (ball_lists cs rs) old now (Finished c)
-  grading_ends e =
+  pub grading_ends : h.instructions ≤ k → Grades s h (ball_lists cs rs) old now (Ok c)
+  grading_ends l =
+      let e : k ≡ h.instructions = omega (arith, few) in
       let r = formula_whole goes w.formula_there w.onward (onward_ends goes w.onward e) in
       record {
         says = sym (ap (walk_end m) r);
@@ -180,13 +175,7 @@ module _ {s : List ℕ} {h : Header} {cs : List ℤ} {rs : List ℕ} {c : Cursor
         stands = formula_stands goes w.formula_there w.onward e;
       }
 
-  module _ (more : k ≡ h.instructions → ⊥) where
-    next : k < h.instructions
-    next = less few more
-
-    pub grading_less : h.instructions - (k + 1) < h.instructions - k
-    grading_less = omega (arith, next)
-
+  module _ (next : k < h.instructions) where
     pub grading_within : c.at ≤ 2 ^ 30
     grading_within = omega (arith, formula_near goes w.formula_there w.onward)
 
@@ -226,7 +215,7 @@ module _ {s : List ℕ} {h : Header} {cs : List ℤ} {rs : List ℕ} {c : Cursor
             away = away;
           }
 
-      module _ {new : List ℕ} {t : Bool} (steps : Sloped h.scale h.inputs i (h.inputs + k) cs rs now new t) where
+      module _ {new : List ℕ} {t : Result (Unit {0}) Refusal} (steps : Sloped h.scale h.inputs i (h.inputs + k) cs rs now new t) where
         abbrev new_row : List ℕ
         new_row = slopes_result F m (with_slopes bs w.made i)
 
@@ -235,18 +224,27 @@ module _ {s : List ℕ} {h : Header} {cs : List ℤ} {rs : List ℕ} {c : Cursor
             subst (λ (ls : List (List ℕ)). Laid (slopes_result F m (with_slopes bs ls i)) ((m + k) * m) now new t) rows_are
             (steps.lays bs (λ j b. agrees j (omega (arith, next))))
 
-        pub grading_stops : t ≡ false → Grades s h (ball_lists cs rs) old new (Stopped OutOfReach k)
-        grading_stops e =
-            let o = reach_refuses largest (slopes_result F m (with_slopes bs w.made i)) (leb-false _ M (sym laid.fits ∙ e)) in
+        low_if : (b : Bool) → t ≡ if_low b → t ≡ Ok tt → b ≡ true
+        low_if true e u = refl
+        low_if false e u = absurd (cc)
+
+        high_if : (b : Bool) {q : Refusal} → t ≡ if_low b → t ≡ Err q → (b ≡ false) × (q ≡ OutOfReach)
+        high_if true e u = absurd (cc)
+        high_if false e u = (refl, cc)
+
+        pub grading_stops : {q : Refusal} → t ≡ Err q → Grades s h (ball_lists cs rs) old new (Err (record { why = q; place = k }))
+        grading_stops u =
+            let high = high_if (leb (largest new_row) M) laid.fits u in
+            let o = reach_refuses largest (slopes_result F m (with_slopes bs w.made i)) (leb-false _ M high.0) in
             let r = formula_whole goes w.formula_there w.onward (onward_stops goes w.onward next decodes o) in
-            record { says = ap (refuses (refusal_number OutOfReach)) place ∙ sym (ap (walk_end m) r); grown = tt; stands = tt }
+            rw high.1 (record { says = ap (refuses (refusal_number OutOfReach)) place ∙ sym (ap (walk_end m) r); grown = tt; stands = tt })
           where
             place : k ≡ length w.made - h.inputs
             place = omega (arith, w.many)
 
-        pub grading_more : t ≡ true → Grading s h cs rs e (k + 1) old new
+        pub grading_more : t ≡ Ok tt → Grading s h cs rs e (k + 1) old new
         grading_more u =
-            let low_row = leb-true (largest new_row) M (sym laid.fits ∙ u) in
+            let low_row = leb-true (largest new_row) M (low_if (leb (largest new_row) M) laid.fits u) in
             record {
               formula_there = w.formula_there;
               asked = w.asked;

@@ -1,13 +1,16 @@
 -- The slopes of all values in one list, m a value: a row is laid behind those before it, instruction by instruction.
-use Rattle.std.specs.Prelude.{◌≡◌, Bool, true, List, map, ℕ, ◌+◌, ◌*◌, ◌≤◌, ◌<◌, leb, ℤ, pos, nat_abs, length, get_or, take, drop}
+use Rattle.std.specs.Prelude.{◌≡◌, Bool, true, false, List, ℕ, ◌+◌, ◌*◌, ◌≤◌, ◌<◌, leb, ℤ, pos, nat_abs, length, get_or, take, drop}
 use Rattle.lists.specs.All.{All}
 use Rattle.lists.specs.Joined.{joined}
 use Rattle.lists.specs.Over.{over}
 use Rattle.lists.specs.Written.{written}
+use Rattle.std.specs.declared.result.Result.{Result}
+use Rattle.std.specs.declared.result.Result.TheVariants.{Ok, Err}
+use Rattle.refusals.specs.declared.Refusal.{Refusal}
+use Rattle.refusals.specs.declared.Refusal.TheVariants as refusal
 use Rattle.refusals.specs.Answer.{value}
 use Rattle.rules.specs.declared.Ball.{Ball}
 use Rattle.rules.specs.Numbers.{M, top_scale}
-use Rattle.rules.specs.Reciprocals.{top_reciprocal_scale}
 use Rattle.rules.specs.Values.{IsBall}
 use Rattle.rules.specs.Balls.{ball, ball_rule}
 use Rattle.rules.specs.Lists.{BallLists, no_ball}
@@ -18,10 +21,9 @@ use Rattle.formulas.specs.Formula.{Smaller, places}
 use Rattle.formulas.specs.Run.{Walk, finished, run, made_by, walk_end}
 use Rattle.formulas.specs.Kinds.{ball_kind}
 use Rattle.packed.specs.Meaning.{meant, checked}
-use Rattle.walks.specs.declared.Walked.{Walked}
-use Rattle.walks.specs.declared.Walked.TheVariants.{Finished, Stopped}
+use Rattle.walks.specs.Walks.{Walked}
 use Rattle.walks.specs.Walks.{walked_said, StandsAfter}
-use Rattle.cards.specs.Slopes.{all_inputs, largest, product_slope, reciprocal_slope, slopes_result, with_slopes, slope_run}
+use Rattle.cards.specs.Slopes.{all_inputs, largest, slopes_result, with_slopes, slope_run}
 use Rattle.cards.specs.Card.{flat, rows}
 
 -- the m slopes that stand from a place on
@@ -33,33 +35,28 @@ pub record Layable (m at : ℕ) (slopes : List ℕ) : Type 0 where
   pub room : at + m ≤ length slopes
   pub low : (j : ℕ) → j < at → get_or slopes j 0 ≤ M
 
--- whether no slope of the row is over M; if so it stands at its place
-pub record Laid (new_row : List ℕ) (at : ℕ) (old new : List ℕ) (t : Bool) : Type 0 where
-  pub fits : t ≡ leb (largest new_row) M
-  pub holds : t ≡ true → new ≡ written at new_row old
+-- no slope of the row is over M, or 11
+abbrev pub if_low : Bool → Result (Unit {0}) Refusal
+if_low true = Ok tt
+if_low false = Err refusal.OutOfReach
 
--- the rows from a and b on, y times the one and x times the other
-pub record Weighable (F m a y b x to : ℕ) (slopes : List ℕ) : Type 0 where
-  pub scale_small : F ≤ top_scale
-  pub layable : Layable m to slopes
-  pub first : a + m ≤ to
-  pub second : b + m ≤ to
-  pub x_low : x ≤ M
-  pub y_low : y ≤ M
+-- if none is the row stands at its place
+pub record Laid (new_row : List ℕ) (at : ℕ) (old new : List ℕ) (r : Result (Unit {0}) Refusal) : Type 0 where
+  pub fits : r ≡ if_low (leb (largest new_row) M)
+  pub holds : r ≡ Ok tt → new ≡ written at new_row old
 
-abbrev pub weighed : (F m a y b x : ℕ) → List ℕ → List ℕ
-weighed F m a y b x slopes = joined (product_slope F x y) (row m a slopes) (row m b slopes)
+-- the rows of values a and b of m slopes stand before that of value n, which has room
+pub record TwoRows (m n a b : ℕ) (slopes : List ℕ) : Type 0 where
+  pub few : n < 1024
+  pub inputs_few : m ≤ 16
+  pub layable : Layable m (n * m) slopes
+  pub first : a * m + m ≤ n * m
+  pub second : b * m + m ≤ n * m
 
--- the row from a on, T times, over w·w
-pub record Dividable (F m a w to : ℕ) (slopes : List ℕ) : Type 0 where
-  pub scale_small : F ≤ top_reciprocal_scale
-  pub layable : Layable m to slopes
-  pub first : a + m ≤ to
-  pub w_some : 0 < w
-  pub w_low : w ≤ M
-
-abbrev pub divided : (F m a w : ℕ) → List ℕ → List ℕ
-divided F m a w slopes = map (reciprocal_slope F w) (row m a slopes)
+-- the slope at each input is what P says of those that a and b have there
+pub record LaidBy (P : ℕ → ℕ → ℕ → Type 0) (m n a b : ℕ) (old new : List ℕ) (r : Result (Unit {0}) Refusal) : Type 0 where
+  pub by : (f : ℕ → ℕ → ℕ) → ((k l t : ℕ) → k ≤ M → l ≤ M → P k l t → t ≡ f k l)
+      → Laid (joined f (row m (a * m) old) (row m (b * m) old)) (n * m) old new r
 
 -- the inputs' own rows
 pub record Startable (F m : ℕ) (slopes : List ℕ) : Type 0 where
@@ -96,9 +93,9 @@ pub record Sloping (F m : ℕ) (i : Instruction) (made : ℕ) (cs : List ℤ) (r
 abbrev pub Agrees : ℕ → List Ball → List ℤ → List ℕ → Type 0
 Agrees n bs cs rs = (j : ℕ) → j < n → get_or bs j no_ball ≡ ball_in cs rs j
 
-pub record Sloped (F m : ℕ) (i : Instruction) (made : ℕ) (cs : List ℤ) (rs old new : List ℕ) (t : Bool) : Type 0 where
+pub record Sloped (F m : ℕ) (i : Instruction) (made : ℕ) (cs : List ℤ) (rs old new : List ℕ) (r : Result (Unit {0}) Refusal) : Type 0 where
   pub lays : (bs : List Ball) → Agrees made bs cs rs
-      → Laid (slopes_result F m (with_slopes bs (rows m made old) i)) (made * m) old new t
+      → Laid (slopes_result F m (with_slopes bs (rows m made old) i)) (made * m) old new r
 
 -- all instructions: h is the header of the formula in s, the lists hold the balls of a run that was accepted, and the
 -- inputs' slopes stand in front
@@ -120,8 +117,8 @@ grading_of s h l = slope_run h.scale h.inputs (ranges h l) (meant s).program (al
 
 -- what is there once all slopes are
 abbrev pub Grown : List ℕ → Header → BallLists → List ℕ → List ℕ → Walked → Type 0
-Grown s h l old new (Finished d) = new ≡ over (flat (made_by (grading_of s h l))) old
-Grown s h l old new (Stopped r k) = Unit {0}
+Grown s h l old new (Ok d) = new ≡ over (flat (made_by (grading_of s h l))) old
+Grown s h l old new (Err e) = Unit {0}
 
 pub record Grades (s : List ℕ) (h : Header) (l : BallLists) (old new : List ℕ) (r : Walked) : Type 0 where
   pub says : walked_said r ≡ walk_end h.inputs (grading_of s h l)

@@ -1,81 +1,84 @@
 // The slopes of one instruction, from those of its operands and their balls.
-ghost use Rattle.std.specs.Prelude.{◌≡◌, ◌≤◌, ◌<◌};
+ghost use Rattle.std.specs.Prelude.{◌≡◌, ◌+◌, ◌≤◌, ◌<◌};
 ghost use Rattle.rules.specs.Numbers.{M};
 ghost use Rattle.rules.specs.Values.{ball_reach};
 ghost use Rattle.cards.specs.Slopes.{nearness};
+ghost use Rattle.cards.specs.Slopes as slopes_of;
 ghost use Rattle.slope_walk.specs.Grading.{ball_in, Ranged, RangedAway, Sloping, Sloped};
 
-use crate::rows::{divide, weigh};
+use crate::rows::{lay, product_slope, reciprocal_slope};
 use formulas::Instruction;
-use rounding::unit;
+use refusals::Refusal;
 use whole::magnitude;
 
-// The reach of value i's ball.
-fn reach_at(centres: &[i64], margins: &[u64], i: usize) -> u64
-    requires { Ranged centres.now margins.now i }
-    ensures { (result ≡ ball_reach (ball_in centres.now margins.now i)) × (result ≤ M) }
-{
-    let centre = centres[i];
-    magnitude(centre) + margins[i]
+// The balls of a run's values.
+#[derive(Clone, Copy)]
+pub(crate) struct Balls<'a> {
+    pub centres: &'a [i64],
+    pub margins: &'a [u64],
 }
 
-// How far from 0 value i's ball stays.
-fn near_at(centres: &[i64], margins: &[u64], i: usize) -> u64
-    requires { RangedAway centres.now margins.now i }
-    ensures { (result ≡ nearness (ball_in centres.now margins.now i)) × (0 < result) × (result ≤ M) }
-{
-    let centre = centres[i];
-    magnitude(centre) - margins[i]
+impl Balls<'_> {
+    // The reach of value i's ball.
+    fn reach(self, i: usize) -> u64
+        requires { Ranged self.centres.now self.margins.now i }
+        ensures { (result ≡ ball_reach (ball_in self.entry.centres.now self.entry.margins.now i)) × (result ≤ M) }
+    {
+        magnitude(self.centres[i]) + self.margins[i]
+    }
+
+    // How far from 0 it stays.
+    fn nearness(self, i: usize) -> u64
+        requires { RangedAway self.centres.now self.margins.now i }
+        ensures { (result ≡ nearness (ball_in self.entry.centres.now self.entry.margins.now i)) × (0 < result) × (result ≤ M) }
+    {
+        magnitude(self.centres[i]) - self.margins[i]
+    }
 }
 
-// One instruction on the rows of the first `made` values; whether none of its slopes is over the limit.
+// One instruction on the rows of the first `made` values, unless one of its slopes is over the limit.
 pub(crate) fn step(
     scale: u32,
     inputs: usize,
     i: Instruction,
     made: usize,
-    centres: &[i64],
-    margins: &[u64],
+    balls: Balls,
     slopes: &mut [u64],
-) -> bool
-    requires { Sloping scale inputs i made centres.now margins.now slopes.old }
-    ensures { Sloped scale inputs i made centres.now margins.now slopes.old
+) -> Result<(), Refusal>
+    requires { Sloping scale inputs i made balls.centres.now balls.margins.now slopes.old }
+    ensures { Sloped scale inputs i made balls.entry.centres.now balls.entry.margins.now slopes.old
         slopes.new result }
 {
-    let q = unit(scale);
-    let to = made * inputs;
     match i {
-        Instruction::Constant(_c) => weigh(scale, inputs, 0, 0, 0, 0, to, slopes),
-        Instruction::Negate(a) => weigh(scale, inputs, a * inputs, q, a * inputs, 0, to, slopes),
-        Instruction::Add(a, b) => weigh(scale, inputs, a * inputs, q, b * inputs, q, to, slopes),
-        Instruction::Subtract(a, b) => weigh(
-            scale,
-            inputs,
-            a * inputs,
-            q,
-            b * inputs,
-            q,
-            to,
-            slopes,
-        ),
-        Instruction::Multiply(a, b) => weigh(
-            scale,
-            inputs,
-            a * inputs,
-            reach_at(centres, margins, b),
-            b * inputs,
-            reach_at(centres, margins, a),
-            to,
-            slopes,
-        ),
-        Instruction::Coefficient(_c, _r) => weigh(scale, inputs, 0, 0, 0, 0, to, slopes),
-        Instruction::Reciprocal(a) => divide(
-            scale,
-            inputs,
-            a * inputs,
-            near_at(centres, margins, a),
-            to,
-            slopes,
-        ),
+        Instruction::Constant(_) | Instruction::Coefficient(_, _) => {
+            lay(inputs, made, 0, 0, slopes, |_, _| 0)
+        }
+        Instruction::Negate(a) => lay(inputs, made, a, a, slopes, |k, _| k),
+        Instruction::Add(a, b) | Instruction::Subtract(a, b) => {
+            lay(inputs, made, a, b, slopes, |k, l| k + l)
+        }
+        Instruction::Multiply(a, b) => {
+            let x = balls.reach(a);
+            let y = balls.reach(b);
+            lay(
+                inputs,
+                made,
+                a,
+                b,
+                slopes,
+                |k, l| product_slope(scale, x, y, k, l),
+            )
+        }
+        Instruction::Reciprocal(a) => {
+            let w = balls.nearness(a);
+            lay(
+                inputs,
+                made,
+                a,
+                a,
+                slopes,
+                |k, _| reciprocal_slope(scale, w, k),
+            )
+        }
     }
 }

@@ -2,35 +2,34 @@
 ghost use Rattle.rules.specs.Lists.{ball_lists};
 ghost use Rattle.slope_walk.specs.Grading.{Gradable, Grades};
 
-use crate::steps::step;
+use crate::steps::{Balls, step};
 use bits::Cursor;
 use formulas::Header;
 use packed::loaded::load;
 use packed::walking::decode_ahead;
-use refusals::Refusal;
-use walks::Walked;
+use refusals::Refused;
 
 // Each row behind those before it, over the balls of a run that was accepted.
-pub fn grade(s: &[u8], h: Header, centres: &[i64], margins: &[u64], slopes: &mut [u64]) -> Walked
+pub fn grade(
+    s: &[u8],
+    h: Header,
+    centres: &[i64],
+    margins: &[u64],
+    slopes: &mut [u64],
+) -> Result<Cursor, Refused>
     requires { Gradable s.now h (ball_lists centres.now margins.now) slopes.old }
     ensures { Grades s.now h (ball_lists centres.now margins.now)
         slopes.old slopes.new result }
 {
     let mut at = Cursor { at: 32 };
-    let mut k = 0;
-    loop {
-        if k == h.instructions {
-            break Walked::Finished(at);
-        }
+    for k in 0..h.instructions {
         let made = h.inputs + k;
         let d = decode_ahead(s, load(s, at));
-        let i = d.instruction;
-        let next = d.next;
-        if step(h.scale, h.inputs, i, made, centres, margins, slopes) {
-            at = next;
-            k = k + 1;
-        } else {
-            break Walked::Stopped(Refusal::OutOfReach, k);
+        let balls = Balls { centres, margins };
+        if let Err(why) = step(h.scale, h.inputs, d.instruction, made, balls, slopes) {
+            return Err(Refused { why, place: k });
         }
+        at = d.next;
     }
+    Ok(at)
 }

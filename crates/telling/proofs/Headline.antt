@@ -1,12 +1,12 @@
--- The first line: room for its end, its parts one behind the other, and which it is by the reply. Assumes nothing.
-use mathlib.Core.Path.{◌≡◌, sym, ap}
+-- The first line: room for its end, its parts one behind the other, how long it is. Assumes nothing.
+use mathlib.Core.Path.{◌≡◌, ap}
 use mathlib.Core.List.{List, [], ◌∷◌, ◌++◌}
 use Prim.Native.Nat.{ℕ, ◌+◌, ◌≤◌, ◌<◌}
 use native.Mathlib.Omega.{arith}
 use lib.ListN.{length, length-append}
+use Rattle.std.specs.declared.result.Result.TheVariants.{Ok, Err}
 use Rattle.refusals.specs.declared.Refusal.{Refusal}
-use Rattle.refusals.specs.declared.Reply.{Reply}
-use Rattle.refusals.specs.declared.Reply.TheVariants.{Done, Refused}
+use Rattle.refusals.specs.Said.{Reply}
 use Rattle.refusals.specs.Refusals.{refusal_number}
 use Rattle.printing.specs.Decimal.{decimal}
 use Rattle.lists.specs.Written.{Wrote}
@@ -31,10 +31,6 @@ wrote_ok n u w = wrote_then w u
 pub place_end : {o now : List ℕ} {at t : ℕ} (k : ℕ) → Wrote (space ∷ decimal k) at o now t → at + 22 ≤ length o → t < length now
 place_end k x r = omega (arith, wrote_long x, x.after, decimal_short k)
 
-pub wrote_place : {o o1 now : List ℕ} {at p t : ℕ} (k : ℕ) → Wrote (10 ∷ []) p o1 now t → Wrote (space ∷ decimal k) at o o1 p
-    → Wrote (place_text k) at o now t
-wrote_place k u x = wrote_then x u
-
 -- `refused`, a number and a place
 pub place_room : {o now : List ℕ} {at : ℕ} (n : ℕ) → Wrote (refused_word ++ decimal n) 0 o now at → 50 ≤ length o → at + 22 ≤ length now
 place_room n w r = omega (arith, wrote_long w, w.after, told_long refused_word n)
@@ -43,26 +39,18 @@ pub wrote_refused : {o o1 now : List ℕ} {p t : ℕ} (n k : ℕ) (r : Refusal) 
     → Wrote (refused_word ++ decimal n) 0 o o1 p → n ≡ refusal_number r → Wrote (refused_text (refusal_number r) k) 0 o now t
 wrote_refused n k r x w e = wrote_same (ap (λ (m : ℕ). refused_text m k) e) (wrote_then w x)
 
-module _ {o now : List ℕ} {t : ℕ} where
-  pub head_refused : {r : Reply} {q : Refusal} {k : ℕ} → Wrote (refused_text (refusal_number q) k) 0 o now t
-      → r ≡ Refused q k → Wrote (headline r) 0 o now t
-  head_refused w e = wrote_same (ap headline (sym e)) w
-
-  pub head_done : {r : Reply} {n : ℕ} → Wrote (ok_text n) 0 o now t → r ≡ Done n → Wrote (headline r) 0 o now t
-  head_done w e = wrote_same (ap headline (sym e)) w
-
 -- at most 50 bytes
 pub headline_short : (r : Reply) → length (headline r) ≤ 50
-headline_short (Done n) =
+headline_short (Ok n) =
     omega (arith, length-append (ok_word ++ decimal n) (10 ∷ []), length-append ok_word (decimal n), decimal_short n)
-headline_short (Refused q k) =
-    let n = refusal_number q in
+headline_short (Err e) =
+    let n = refusal_number e.why in
     omega (
       arith,
-      length-append (refused_word ++ decimal n) (place_text k),
+      length-append (refused_word ++ decimal n) (place_text e.place),
       told_long refused_word n,
-      length-append (decimal k) (10 ∷ []),
-      decimal_short k,
+      length-append (decimal e.place) (10 ∷ []),
+      decimal_short e.place,
     )
 
 -- the lines of the outputs follow it

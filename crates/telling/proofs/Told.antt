@@ -7,8 +7,8 @@ use native.Mathlib.Omega.{arith}
 use borrow.Author.Tests.{le-leb}
 use lib.ListN.{length, get_or, length-map}
 use Rattle.lists.specs.Over.{least}
-use Rattle.refusals.specs.declared.Reply.{Reply}
-use Rattle.refusals.specs.declared.Reply.TheVariants.{Done, Refused}
+use Rattle.std.specs.declared.result.Result.TheVariants.{Ok, Err}
+use Rattle.refusals.specs.Said.{Reply}
 use Rattle.refusals.specs.Answer.{value, refused}
 use Rattle.refusals.specs.Places.{Placed}
 use Rattle.refusals.specs.Said.{Said, answered, refuses, reply_said}
@@ -18,7 +18,7 @@ use Rattle.formulas.specs.Kinds.{Kind}
 use Rattle.formulas.specs.Job.{Started, start, if_started, started_run, walk_ended, job, Lent, lent_job, Kept}
 use Rattle.formulas.specs.Job.{Result, refused_first, stopped_at, done, said, outputs_of}
 use Rattle.formulas.proofs.Jobs.{starts}
-use Rattle.formulas.proofs.Lawful.{Lawful}
+use Rattle.formulas.specs.Lawful.{Lawful}
 use Rattle.packed.specs.Meaning.{formula}
 use Rattle.packed.proofs.WellFormed.{accepted_well_formed}
 use Rattle.lists.specs.Written.{Wrote}
@@ -37,12 +37,12 @@ said_count (answered n) = n
 said_count (refuses n k) = 0
 
 head_said : (r : Reply) → headline r ≡ said_head (reply_said r)
-head_said (Done n) = refl
-head_said (Refused q k) = refl
+head_said (Ok n) = refl
+head_said (Err e) = refl
 
 count_said : (r : Reply) → output_count r ≡ said_count (reply_said r)
-count_said (Done n) = refl
-count_said (Refused q k) = refl
+count_said (Ok n) = refl
+count_said (Err e) = refl
 
 outputs_many : {A : Type 0} (j : Result A) → length (outputs_of j) ≡ said_count (said j)
 outputs_many (refused_first n k) = refl

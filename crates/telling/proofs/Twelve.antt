@@ -2,7 +2,7 @@
 use mathlib.Core.Path.{◌≡◌, refl, sym, ◌∙◌, ap, ap₂, subst}
 use mathlib.Core.Bool.{Bool, true, false, cond}
 use mathlib.Core.List.{List, [], ◌∷◌, ◌++◌}
-use mathlib.Core.Option.{Option, none, some}
+use Rattle.std.proofs.Common.{Option, Some, None}
 use Prim.Native.Nat.{ℕ}
 use native.Mathlib.Omega.{arith}
 use lib.Dec.{leb}
@@ -14,12 +14,15 @@ use Rattle.formulas.specs.Kinds.{Kind}
 use Rattle.formulas.specs.Job.{Result, refused_first, stopped_at, done, job, said}
 use Rattle.formulas.specs.GivenInRuns.{Terms}
 use Rattle.formulas.specs.Readings.{ball_readings, domain}
-use Rattle.formulas.proofs.Lawful.{Lawful, plain_lawful, ball_lawful, matryoshka_lawful}
+use Rattle.formulas.specs.Lawful.{Lawful}
+use Rattle.formulas.proofs.Lawful.{plain_lawful, ball_lawful, matryoshka_lawful}
 use Rattle.formulas.proofs.GivenInRuns.{Refusing, plain_refusing, ball_refusing, matryoshka_refusing}
 use Rattle.packed.specs.Meaning.{formula}
 use Rattle.packed.proofs.GivenExactly.{job_numbers}
 use Rattle.parsing.specs.Lines.{lines}
-use Rattle.parsing.specs.Word.{Job, plain, ball, admit, job_named, numbers_on_a_line}
+use Rattle.parsing.specs.declared.word.Job.{Job}
+use Rattle.parsing.specs.declared.word.Job.TheVariants.{Plain, Ball, Admit}
+use Rattle.parsing.specs.Word.{job_named, numbers_on_a_line}
 use Rattle.hex_bytes.specs.Hex.{hex}
 use Rattle.rows.specs.Rows.{space, column, each_row}
 use Rattle.printing.specs.Decimal.{decimal}
@@ -58,10 +61,10 @@ kind_text_not {K} law refusing fields bytes given e =
     (λ n k u. (job_numbers law refusing bytes given most_values most_outputs u).not_twelve) e
 
 job_text_not : (j : Job) (bytes : List ℕ) (rows : List (List ℤ)) → job_text j bytes rows ≡ twelve_text → ⊥
-job_text_not plain bytes rows e = kind_text_not plain_lawful plain_refusing plain_fields bytes (column 0 rows) e
-job_text_not ball bytes rows e =
+job_text_not Plain bytes rows e = kind_text_not plain_lawful plain_refusing plain_fields bytes (column 0 rows) e
+job_text_not Ball bytes rows e =
     kind_text_not ball_lawful ball_refusing ball_fields bytes (ball_readings (column 0 rows) (column 1 rows)) e
-job_text_not admit bytes rows e =
+job_text_not Admit bytes rows e =
     kind_text_not matryoshka_lawful matryoshka_refusing matryoshka_fields bytes (domain (column 0 rows) (column 1 rows) (column 2 rows)) e
 
 -- ---- input of the form, and of another
@@ -78,11 +81,11 @@ module _ (s : List ℕ) where
   another_told : (InForm s → ⊥) → if_lines (lines s) ≡ twelve_text
   another_told d = by_lines (lines s) refl
     where
-      by_rows : {l w : List ℕ} {rs : List (List ℕ)} → lines s ≡ some (l ∷ w ∷ rs) → {b : List ℕ} → hex l ≡ some b
-          → (j : Job) → job_named w ≡ some j → (o : Option (List (List ℤ))) → each_row (numbers_on_a_line j) rs ≡ o
+      by_rows : {l w : List ℕ} {rs : List (List ℕ)} → lines s ≡ Some (l ∷ w ∷ rs) → {b : List ℕ} → hex l ≡ Some b
+          → (j : Job) → job_named w ≡ Some j → (o : Option (List (List ℤ))) → each_row (numbers_on_a_line j) rs ≡ o
           → if_rows j b o ≡ twelve_text
-      by_rows u v j n none r = refl
-      by_rows {l} {w} {rs} u v j n (some rows) r =
+      by_rows u v j n None r = refl
+      by_rows {l} {w} {rs} u v j n (Some rows) r =
           absurd
           (d
           (record {
@@ -94,17 +97,17 @@ module _ (s : List ℕ) where
             are_readings = are_rows (numbers_on_a_line j) rs r;
           }))
 
-      by_parts : {l w : List ℕ} {rs : List (List ℕ)} → lines s ≡ some (l ∷ w ∷ rs) → (o : Option (List ℕ)) → hex l ≡ o
+      by_parts : {l w : List ℕ} {rs : List (List ℕ)} → lines s ≡ Some (l ∷ w ∷ rs) → (o : Option (List ℕ)) → hex l ≡ o
           → (p : Option Job) → job_named w ≡ p → if_job o p rs ≡ twelve_text
-      by_parts u none v p n = refl
-      by_parts u (some b) v none n = refl
-      by_parts {rs = rs} u (some b) v (some j) n = by_rows u v j n (each_row (numbers_on_a_line j) rs) refl
+      by_parts u None v p n = refl
+      by_parts u (Some b) v None n = refl
+      by_parts {rs = rs} u (Some b) v (Some j) n = by_rows u v j n (each_row (numbers_on_a_line j) rs) refl
 
       by_lines : (o : Option (List (List ℕ))) → lines s ≡ o → if_lines o ≡ twelve_text
-      by_lines none u = refl
-      by_lines (some []) u = refl
-      by_lines (some (l ∷ [])) u = refl
-      by_lines (some (l ∷ w ∷ rs)) u = by_parts u (hex l) refl (job_named w) refl
+      by_lines None u = refl
+      by_lines (Some []) u = refl
+      by_lines (Some (l ∷ [])) u = refl
+      by_lines (Some (l ∷ w ∷ rs)) u = by_parts u (hex l) refl (job_named w) refl
 
   pub twelve_printed : LongerOrAnotherForm s → program_text s ≡ twelve_text
   unfolding program_text

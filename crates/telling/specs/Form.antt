@@ -2,7 +2,8 @@
 use Rattle.std.specs.Prelude.{◌≡◌, List, [], ◌∷◌, ◌++◌, ℕ, suc, ◌≤◌, ◌<◌, length}
 use Rattle.lists.specs.All.{All}
 use Rattle.parsing.specs.Lines.{LF}
-use Rattle.parsing.specs.Word.{Job, spelt, numbers_on_a_line}
+use Rattle.parsing.specs.declared.word.Job.{Job}
+use Rattle.parsing.specs.Word.{spelt, numbers_on_a_line}
 use Rattle.rows.specs.Rows.{space}
 use Rattle.telling.specs.Program.{longest_input}
 

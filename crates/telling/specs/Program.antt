@@ -1,6 +1,5 @@
 -- Document 01, "The program": what `margins` prints, for every input.
-use Rattle.std.specs.Prelude.{cond, List, [], ◌∷◌, ◌++◌, ℕ, leb, ℤ, length}
-use Rattle.std.proofs.Math.Option.{Option, none, some}
+use Rattle.std.specs.Prelude.{Option, Some, None, cond, List, [], ◌∷◌, ◌++◌, ℕ, leb, ℤ, length}
 use Rattle.refusals.specs.declared.Refusal.TheVariants.{AnotherForm}
 use Rattle.refusals.specs.Refusals.{refusal_number}
 use Rattle.formulas.specs.Readings.{ball_readings, domain}
@@ -8,7 +7,9 @@ use Rattle.formulas.specs.Kinds.{Kind, plain_kind, ball_kind, matryoshka_kind}
 use Rattle.formulas.specs.Job.{Result, refused_first, stopped_at, done, job}
 use Rattle.packed.specs.Meaning.{formula}
 use Rattle.parsing.specs.Lines.{lines}
-use Rattle.parsing.specs.Word.{Job, plain, ball, admit, job_named, numbers_on_a_line}
+use Rattle.parsing.specs.declared.word.Job.{Job}
+use Rattle.parsing.specs.declared.word.Job.TheVariants.{Plain, Ball, Admit}
+use Rattle.parsing.specs.Word.{job_named, numbers_on_a_line}
 use Rattle.hex_bytes.specs.Hex.{hex}
 use Rattle.rows.specs.Rows.{space, column, each_row}
 use Rattle.printing.specs.Decimal.{decimal}
@@ -56,31 +57,31 @@ kind_text K fields bytes given = text_of fields (job K (formula bytes) given mos
 
 -- "1 (`plain`), 2 (`ball`) or 3 (`admit`) decimal numbers"
 abbrev pub job_text : Job → List ℕ → List (List ℤ) → List ℕ
-job_text plain bytes rows = kind_text plain_kind plain_fields bytes (column 0 rows)
-job_text ball bytes rows = kind_text ball_kind ball_fields bytes (ball_readings (column 0 rows) (column 1 rows))
-job_text admit bytes rows =
+job_text Plain bytes rows = kind_text plain_kind plain_fields bytes (column 0 rows)
+job_text Ball bytes rows = kind_text ball_kind ball_fields bytes (ball_readings (column 0 rows) (column 1 rows))
+job_text Admit bytes rows =
     kind_text matryoshka_kind matryoshka_fields bytes (domain (column 0 rows) (column 1 rows) (column 2 rows))
 
 -- `refused 12` is tested first, over the whole input
 abbrev pub if_rows : Job → List ℕ → Option (List (List ℤ)) → List ℕ
-if_rows job bytes none = twelve_text
-if_rows job bytes (some rows) = job_text job bytes rows
+if_rows job bytes None = twelve_text
+if_rows job bytes (Some rows) = job_text job bytes rows
 
 -- "at most 16 KiB"
 abbrev pub longest_input : ℕ
 longest_input = 16384
 
 abbrev pub if_job : Option (List ℕ) → Option Job → List (List ℕ) → List ℕ
-if_job none named ls = twelve_text
-if_job (some bytes) none ls = twelve_text
-if_job (some bytes) (some job) ls = if_rows job bytes (each_row (numbers_on_a_line job) ls)
+if_job None named ls = twelve_text
+if_job (Some bytes) None ls = twelve_text
+if_job (Some bytes) (Some job) ls = if_rows job bytes (each_row (numbers_on_a_line job) ls)
 
 -- "Line 1: the formula in lower-case hex. Line 2: one of the words .. Then one line a reading"
 abbrev pub if_lines : Option (List (List ℕ)) → List ℕ
-if_lines none = twelve_text
-if_lines (some []) = twelve_text
-if_lines (some (formula ∷ [])) = twelve_text
-if_lines (some (formula ∷ word ∷ readings)) = if_job (hex formula) (job_named word) readings
+if_lines None = twelve_text
+if_lines (Some []) = twelve_text
+if_lines (Some (formula ∷ [])) = twelve_text
+if_lines (Some (formula ∷ word ∷ readings)) = if_job (hex formula) (job_named word) readings
 
 unfoldable pub program_text : List ℕ → List ℕ
 program_text s = cond (leb (length s) longest_input) (if_lines (lines s)) twelve_text

@@ -10,7 +10,7 @@ ghost use Rattle.telling.specs.Telling.{headline, output_count};
 
 use printing::bytes::{put, put_word};
 use printing::numbers::{put_marked, put_number};
-use refusals::{Refusal, Reply, number_of};
+use refusals::{Refused, number_of};
 
 // A word and a number, to the front of `out`.
 fn put_told(word: &[u8], n: u64, out: &mut [u8]) -> usize
@@ -38,30 +38,27 @@ fn put_place(place: usize, out: &mut [u8], at: usize) -> usize
     put(b'\n', out, placed)
 }
 
-pub fn put_refused(q: Refusal, place: usize, out: &mut [u8]) -> usize
+pub fn put_refused(refused: Refused, out: &mut [u8]) -> usize
     requires { 50 ≤ length out.old }
-    ensures { Wrote (refused_text (refusal_number q) place) 0 out.old out.new result }
+    ensures { Wrote (refused_text (refusal_number refused.why) refused.place) 0 out.old out.new result }
 {
-    let numbered = put_told(b"refused ", number_of(q) as u64, out);
-    put_place(place, out, numbered)
+    let numbered = put_told(b"refused ", number_of(refused.why) as u64, out);
+    put_place(refused.place, out, numbered)
 }
 
-pub fn put_headline(reply: Reply, out: &mut [u8]) -> usize
+pub fn put_headline(reply: Result<usize, Refused>, out: &mut [u8]) -> usize
     requires { 50 ≤ length out.old }
     ensures { Wrote (headline reply) 0 out.old out.new result }
 {
     match reply {
-        Reply::Refused(q, k) => put_refused(q, k, out),
-        Reply::Done(n) => put_ok(n as u64, out),
+        Ok(n) => put_ok(n as u64, out),
+        Err(refused) => put_refused(refused, out),
     }
 }
 
 // How many outputs there are: after a refusal none.
-pub fn count_of(reply: Reply) -> usize
+pub fn count_of(reply: Result<usize, Refused>) -> usize
     ensures { result ≡ output_count reply }
 {
-    match reply {
-        Reply::Refused(_, _) => 0,
-        Reply::Done(n) => n,
-    }
+    reply.unwrap_or(0)
 }

@@ -6,7 +6,7 @@ use lib.IntN.{ℤ}
 use mir.Syntax.{w64}
 use mir.Val.{SFits}
 use Rattle.whole.proofs.Machine.{back}
-use Rattle.refusals.specs.declared.Reply.{Reply}
+use Rattle.refusals.specs.Said.{Reply}
 use Rattle.refusals.specs.Said.{reply_said}
 use Rattle.replies.specs.declared.MarginsPacked.{MarginsPacked}
 use Rattle.replies.specs.Doors.{margins_packed, outputs_told}

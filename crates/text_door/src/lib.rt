@@ -9,6 +9,5 @@ use text_packer::pack_text;
 pub fn margins_pack_text(scale: i64, inputs: i64, text: &[u8], bytes: &mut [u8]) -> MarginsPacked
     ensures { TextDoor scale inputs text.now bytes.old bytes.new result }
 {
-    let r = pack_text(scale, inputs, text, bytes);
-    packed_told(r)
+    packed_told(pack_text(scale, inputs, text, bytes))
 }

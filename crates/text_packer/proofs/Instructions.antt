@@ -1,16 +1,14 @@
 -- A text's instructions and the words that keep them: each is read off its word again. Assumes nothing.
-use mathlib.Core.Path.{◌≡◌, refl, sym, ◌∙◌, ap, ap₂, subst}
-use mathlib.Core.Bool.{Bool, true, false, cond, ◌&&◌, ◌||◌}
-use mathlib.Core.List.{List, [], ◌∷◌, ◌++◌, map}
-use Prim.Native.Nat.{ℕ, zero, suc, ◌+◌, ◌-◌, ◌*◌, ◌/◌, ◌%◌, ◌^◌, ◌≤◌, ◌<◌}
-use native.Mathlib.Nat.{le_trans, mul-le-mul}
+use mathlib.Core.Path.{◌≡◌, refl, sym, ◌∙◌, ap, ap₂}
+use mathlib.Core.Bool.{Bool, true, false, cond, ◌||◌}
+use Prim.Native.Nat.{ℕ, ◌+◌, ◌*◌, ◌/◌, ◌%◌, ◌^◌, ◌≤◌, ◌<◌}
+use native.Mathlib.Nat.{mul-le-mul}
 use native.Mathlib.Omega.{arith}
 use borrow.Author.Tests.{ne_eqb}
 use lib.Dec.{leb, eqb}
-use lib.IntN.{ℤ, pos, negsuc, nat_abs}
-use lib.ListN.{length, get_or, take, length-map, length-append, get_or-map}
+use lib.IntN.{pos, negsuc}
+use lib.ListN.{length}
 use lib.Pow.{pow_mono}
-use lib.Seq.{length-take-le, get_or-take, ext_get_or}
 use Rattle.lists.specs.Each.{Each, none, one}
 use Rattle.rules.specs.Numbers.{M, Q, top_scale}
 use Rattle.formulas.specs.declared.Instruction.{Instruction}
@@ -19,10 +17,10 @@ use Rattle.numerals.specs.Units.{units, is_exact}
 use Rattle.numerals.proofs.Rounding.{units_most}
 use Rattle.packing.specs.Raw.{raw, raw_of}
 use Rattle.expressions.specs.Tree.{Tree, input, written, negated, sum, difference, product}
-use Rattle.expressions.specs.Compiled.{constant_fits, number_as, Compiled, joined, compiled, Proper}
-use Rattle.expressions.proofs.Constants.{Ordered, ordered, each_both}
-use Rattle.expression_parser.specs.Words.{operands_word, word_of, Keeps}
-use Rattle.text_packer.specs.WordNumbers.{code_in, first_in, second_in, number_in, word_fits, all_fit}
+use Rattle.expressions.specs.Compiled.{constant_fits, number_as, joined, compiled, Proper}
+use Rattle.expressions.proofs.Constants.{ordered, each_both}
+use Rattle.expression_parser.specs.Words.{operands_word, word_of}
+use Rattle.text_packer.specs.WordNumbers.{code_in, first_in, second_in, word_fits}
 
 -- ---- an instruction of a text
 

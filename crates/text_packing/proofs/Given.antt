@@ -4,28 +4,26 @@ use mathlib.Core.Path.{◌≡◌, refl, sym, ◌∙◌, ap, subst}
 use mathlib.Core.Bool.{Bool, true, false, cond}
 use mathlib.Core.List.{List}
 use mathlib.Core.Logic.{◌↔◌}
-use Prim.Native.Nat.{ℕ, ◌≤◌, ◌<◌}
+use Prim.Native.Nat.{ℕ}
 use borrow.Author.Tests.{leb-true, leb-false, le-leb, lt-leb}
 use lib.Dec.{leb}
 use lib.IntN.{ℤ, nat_abs}
 use lib.ListN.{length}
+use Rattle.std.specs.declared.result.Result.TheVariants.{Err}
+use Rattle.refusals.specs.Places.{because}
 use Rattle.refusals.specs.declared.Refusal.{Refusal}
 use Rattle.refusals.specs.declared.Refusal.TheVariants as refusal
-use Rattle.refusals.specs.declared.Reply.{Reply}
-use Rattle.refusals.specs.declared.Reply.TheVariants as reply
+use Rattle.refusals.specs.Said.{Reply}
 use Rattle.refusals.specs.Refusals.{refusal_number}
 use Rattle.refusals.specs.Answer.{Answer, value, refused, refuse, then}
 use Rattle.refusals.specs.Places.{Placed, elsewhere}
 use Rattle.refusals.specs.Places as places
-use Rattle.refusals.specs.Said.{answered, refuses, reply_said}
+use Rattle.refusals.specs.Said.{refuses, reply_said}
 use Rattle.refusals.proofs.OneReply.{one_reply, never_both, first_said, place_said}
 use Rattle.packed.specs.Items.{scale, inputs}
-use Rattle.packing.specs.Packing.{fits, pack, pack_into}
+use Rattle.packing.specs.Packing.{fits, pack_into}
 use Rattle.packing.specs.Slots.{packed_bytes}
-use Rattle.packing.specs.GivenInPacking.{Unfit}
 use Rattle.packing.proofs.PackingGiven.{unfit_is, unfit_not}
-use Rattle.formulas.specs.Formula.{Formula}
-use Rattle.expressions.specs.Tree.{Tree}
 use Rattle.expressions.specs.Texts.{Parsed, tree, refused_at, parse, open_at_once}
 use Rattle.expressions.specs.Compiled.{compiled}
 use Rattle.expressions.proofs.Prefixes.{text_parsed, parsed_text, refused_as}
@@ -136,10 +134,10 @@ module _ (room : ℕ) (F m : ℤ) (s : List ℕ) where
 
 -- the same of a reply
 pub reply_refused_exactly : {F m : ℤ} {s old new : List ℕ} {q : Reply} → PacksText F m s old new q → (r : Refusal) (k : ℕ)
-    → (q ≡ reply.Refused r k) ↔ GivenInText (length old) F m s (refusal_number r) k
+    → (q ≡ Err (because r k)) ↔ GivenInText (length old) F m s (refusal_number r) k
 reply_refused_exactly {F} {m} {s} {old} {new} {q} x r k = (there, back)
   where
-    there : q ≡ reply.Refused r k → GivenInText (length old) F m s (refusal_number r) k
+    there : q ≡ Err (because r k) → GivenInText (length old) F m s (refusal_number r) k
     there e = by_answer (text_into (length old) F m s) refl (sym (ap reply_said e) ∙ x.says)
       where
         by_answer : (a : Placed (List ℕ)) → text_into (length old) F m s ≡ a → refuses (refusal_number r) k ≡ text_said a
@@ -148,5 +146,5 @@ reply_refused_exactly {F} {m} {s} {old} {new} {q} x r k = (there, back)
         by_answer (refused w) t u =
             refused_given (length old) F m s (t ∙ ap (λ said. places.refused_at (first_said said) (place_said said)) (sym u))
 
-    back : GivenInText (length old) F m s (refusal_number r) k → q ≡ reply.Refused r k
-    back y = one_reply q (reply.Refused r k) (x.says ∙ ap text_said (given_refused (length old) F m s y))
+    back : GivenInText (length old) F m s (refusal_number r) k → q ≡ Err (because r k)
+    back y = one_reply q (Err (because r k)) (x.says ∙ ap text_said (given_refused (length old) F m s y))

@@ -1,15 +1,15 @@
 -- What a text that was accepted leaves: its formula's bytes, of which the exact results are told; two outcomes are equal.
 -- Assumes nothing.
 use mathlib.Core.Path.{◌≡◌, refl, sym, ◌∙◌, ap, subst}
-use mathlib.Core.List.{List, [], ◌∷◌}
+use mathlib.Core.List.{List}
 use Prim.Native.Nat.{ℕ, ◌≤◌}
 use native.Mathlib.Omega.{arith}
 use lib.IntN.{ℤ, nat_abs}
 use lib.ListN.{length, take, get_or}
 use Rattle.lists.specs.Over.{over}
 use Rattle.lists.proofs.Over.{over_front}
-use Rattle.refusals.specs.declared.Reply.{Reply}
-use Rattle.refusals.specs.declared.Reply.TheVariants.{Done}
+use Rattle.std.specs.declared.result.Result.TheVariants.{Ok}
+use Rattle.refusals.specs.Said.{Reply}
 use Rattle.refusals.specs.Answer.{value, refused}
 use Rattle.refusals.specs.Places.{Placed}
 use Rattle.refusals.specs.Said.{answered}
@@ -19,7 +19,6 @@ use Rattle.formulas.specs.ExactRun.{nought, ExactRun}
 use Rattle.packed.specs.Meaning.{formula}
 use Rattle.packing.proofs.RoundTrip.{read_packed}
 use Rattle.packing.proofs.Lengths.{packed_few}
-use Rattle.expressions.specs.Tree.{Tree}
 use Rattle.expressions.specs.Texts.{Text, open_at_once}
 use Rattle.expressions.specs.Compiled.{compiled, worth, Same}
 use Rattle.expressions.proofs.Prefixes.{one_tree}
@@ -52,7 +51,7 @@ record Written (F m : ℤ) (s old new : List ℕ) (n : ℕ) : Type 0 where
   many : n ≡ length bytes
   writes : new ≡ over bytes old
 
-answered_bytes : {F m : ℤ} {s old new : List ℕ} {n : ℕ} → PacksText F m s old new (Done n) → Written F m s old new n
+answered_bytes : {F m : ℤ} {s old new : List ℕ} {n : ℕ} → PacksText F m s old new (Ok n) → Written F m s old new n
 answered_bytes {F} {m} {s} {old} {new} {n} p = by_answer (text_into (length old) F m s) refl p.says
   where
     by_answer : (a : Placed (List ℕ)) → text_into (length old) F m s ≡ a → answered n ≡ text_said a → Written F m s old new n
@@ -66,7 +65,7 @@ answered_bytes {F} {m} {s} {old} {new} {n} p = by_answer (text_into (length old)
     by_answer (refused w) t u = absurd (never_both u)
 
 -- demand by request h: the bytes hold the text
-pub text_held : {F m : ℤ} {s old new : List ℕ} {n : ℕ} → PacksText F m s old new (Done n) → HoldsText F m s new n
+pub text_held : {F m : ℤ} {s old new : List ℕ} {n : ℕ} → PacksText F m s old new (Ok n) → HoldsText F m s new n
 text_held {F} {m} {s} {old} {new} {n} p =
     let w = answered_bytes p in
     let x = w.accepts.text in
@@ -80,7 +79,7 @@ text_held {F} {m} {s} {old} {new} {n} p =
       exact = among_results x;
     }
 
-pub text_bytes_few : {F m : ℤ} {s old new : List ℕ} {n : ℕ} → PacksText F m s old new (Done n) → n ≤ 4248
+pub text_bytes_few : {F m : ℤ} {s old new : List ℕ} {n : ℕ} → PacksText F m s old new (Ok n) → n ≤ 4248
 text_bytes_few p =
     let w = answered_bytes p in
     let x = w.accepts.text in

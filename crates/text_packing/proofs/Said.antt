@@ -8,7 +8,6 @@ use native.Mathlib.Omega.{arith}
 use borrow.Author.Tests.{ltb-true}
 use lib.Dec.{leb, ltb}
 use lib.IntN.{ℤ, pos, nat_abs}
-use lib.ListN.{length}
 use Rattle.whole.proofs.Cases.{both}
 use Rattle.lists.specs.Each.{Each, none, one}
 use Rattle.refusals.specs.Answer.{value}
@@ -16,7 +15,7 @@ use Rattle.formulas.specs.declared.Instruction.{Instruction}
 use Rattle.formulas.specs.Formula.{Smaller, WellFormed}
 use Rattle.packed.specs.Items.{scale, inputs}
 use Rattle.packing.specs.Raw.{raw_of, raw_formula}
-use Rattle.packing.specs.Packing.{fits, pack}
+use Rattle.packing.specs.Packing.{pack}
 use Rattle.packing.proofs.Packs.{is_natural, pack_well_formed}
 use Rattle.expressions.specs.Compiled.{constant_fits, compiled}
 use Rattle.expressions.proofs.Letters.{proper}

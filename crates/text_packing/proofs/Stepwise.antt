@@ -5,8 +5,9 @@ use Prim.Native.Nat.{ℕ}
 use lib.IntN.{ℤ, nat_abs}
 use lib.ListN.{length}
 use Rattle.lists.specs.Over.{over}
+use Rattle.std.specs.declared.result.Result.TheVariants.{Err}
+use Rattle.refusals.specs.Places.{because}
 use Rattle.refusals.specs.declared.Refusal.{Refusal}
-use Rattle.refusals.specs.declared.Reply.TheVariants as reply
 use Rattle.refusals.specs.Refusals.{refusal_number}
 use Rattle.refusals.specs.Answer.{value, refused, Answer, then}
 use Rattle.refusals.specs.Places.{elsewhere}
@@ -47,5 +48,5 @@ front_elsewhere (refused n) = refl
 
 -- a refusal, and the buffer as it was
 pub text_refuses : {F m : ℤ} {s old : List ℕ} {r : Refusal} {k : ℕ} → text_into (length old) F m s ≡ places.refused_at (refusal_number r) k
-    → PacksText F m s old old (reply.Refused r k)
+    → PacksText F m s old old (Err (because r k))
 text_refuses {old = old} e = record { says = sym (ap text_said e); writes = sym (ap (λ a. over (text_front a) old) e) }

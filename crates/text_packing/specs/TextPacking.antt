@@ -1,8 +1,8 @@
 -- Request h, "Formulas as people write them": what packing a text answers, its refusals in order, and what it leaves.
-use Rattle.std.specs.Prelude.{◌≡◌, Bool, true, cond, List, [], ◌∷◌, map, ℕ, suc, eqb, ℤ, pos, nat_abs, length}
+use Rattle.std.specs.Prelude.{◌≡◌, true, cond, List, [], ◌∷◌, map, ℕ, suc, eqb, ℤ, pos, nat_abs, length}
 use Rattle.lists.specs.Over.{over}
 use Rattle.refusals.specs.declared.Refusal.TheVariants as refusal
-use Rattle.refusals.specs.declared.Reply.{Reply}
+use Rattle.refusals.specs.Said.{Reply}
 use Rattle.refusals.specs.Answer.{value, refused, Answer, refuse, then}
 use Rattle.refusals.specs.Places.{Placed, elsewhere}
 use Rattle.refusals.specs.Places as places

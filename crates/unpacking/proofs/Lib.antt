@@ -1,4 +1,3 @@
 -- The laws of reading back, one subject a file.
-pub mod Room
 pub mod Unpacked
 pub mod OneUnpacking

@@ -2,7 +2,7 @@
 use mathlib.Core.Path.{◌≡◌, sym, ◌∙◌}
 use mathlib.Core.List.{List}
 use Prim.Native.Nat.{ℕ}
-use Rattle.checking.specs.declared.Checked.{Checked}
+use Rattle.checking.specs.CheckAnswers.{Checked}
 use Rattle.checking.specs.CheckAnswers.{check_answer}
 use Rattle.checking.proofs.OneCheck.{check_one_outcome}
 use Rattle.packing.specs.Raw.{Parts}

@@ -4,3 +4,4 @@ pub mod Onward
 pub mod Walking
 pub mod Stepping
 pub mod OneWalk
+pub mod Copied

@@ -1,15 +1,15 @@
 -- A walk allows one outcome: how it ended, and every place of the lists. Assumes nothing.
-use mathlib.Core.Path.{◌≡◌, sym, ◌∙◌, ap, ap₂}
+use mathlib.Core.Path.{◌≡◌, sym, ◌∙◌, ap}
 use mathlib.Core.List.{List}
 use Prim.Native.Nat.{ℕ}
-use Rattle.refusals.proofs.OneReply.{never_both, first_said, place_said, same_number}
+use Rattle.std.specs.declared.result.Result.TheVariants.{Ok, Err}
+use Rattle.refusals.proofs.OneReply.{never_both, first_said, place_said, same_refused}
 use Rattle.bits.proofs.OneField.{one_cursor}
 use Rattle.formulas.specs.declared.Header.{Header}
 use Rattle.formulas.specs.Run.{made_by}
 use Rattle.formulas.specs.Kinds.{Kind}
-use Rattle.formulas.proofs.Lawful.{Lawful}
-use Rattle.walks.specs.declared.Walked.{Walked}
-use Rattle.walks.specs.declared.Walked.TheVariants.{Finished, Stopped}
+use Rattle.formulas.specs.Lawful.{Lawful}
+use Rattle.walks.specs.Walks.{Walked}
 use Rattle.walks.specs.Walks.{walked_said, StandsAfter, walk_of, Walks}
 
 pub walks_one_outcome : {K : Kind} → Lawful K → {s : List ℕ} {h : Header} {old : K.Lists} (new₁ new₂ : K.Lists)
@@ -20,7 +20,7 @@ walks_one_outcome {K} law {s} {h} {old} new₁ new₂ r t a b = (
 )
   where
     by_case : (r t : Walked) → walked_said r ≡ walked_said t → StandsAfter s r → StandsAfter s t → r ≡ t
-    by_case (Finished c) (Finished d) e p q = ap Finished (one_cursor c d (p.stands ∙ sym q.stands))
-    by_case (Finished c) (Stopped q k) e p z = absurd (never_both e)
-    by_case (Stopped q k) (Finished d) e p z = absurd (never_both (sym e))
-    by_case (Stopped q k) (Stopped z l) e p w = ap₂ Stopped (same_number q z (ap first_said e)) (ap place_said e)
+    by_case (Ok c) (Ok d) e p q = ap Ok (one_cursor c d (p.stands ∙ sym q.stands))
+    by_case (Ok c) (Err q) e p z = absurd (never_both e)
+    by_case (Err q) (Ok d) e p z = absurd (never_both (sym e))
+    by_case (Err q) (Err r) e p w = ap Err (same_refused (ap first_said e) (ap place_said e))

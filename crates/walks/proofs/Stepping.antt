@@ -4,6 +4,7 @@ use Prim.Native.Nat.{ℕ, ◌+◌, ◌^◌, ◌≤◌, ◌<◌}
 use native.Mathlib.Omega.{arith}
 use lib.IntN.{ℤ, nat_abs}
 use Rattle.whole.proofs.Machine.{back, back_is}
+use Rattle.lists.proofs.Each.{all_at}
 use Rattle.refusals.specs.Answer.{Answer}
 use Rattle.rules.specs.Numbers.{M}
 use Rattle.rules.specs.Values.{Allowed}
@@ -15,7 +16,8 @@ use Rattle.formulas.specs.declared.Instruction.{Instruction}
 use Rattle.formulas.specs.declared.Instruction.TheVariants.{Constant, Negate, Add, Subtract, Multiply, Coefficient, Reciprocal}
 use Rattle.formulas.specs.Formula.{Smaller}
 use Rattle.formulas.specs.Run.{with_values}
-use Rattle.formulas.specs.Kinds.{Kind}
+use Rattle.formulas.specs.Kinds.{Kind, Stands}
+use Rattle.formulas.specs.Lawful.{Lawful}
 use Rattle.walks.specs.Walks.{Named, Operand, Steppable, Stepped}
 
 module _ (K : Kind) {F made : ℕ} {i : Instruction} {l : K.Lists} (p : Steppable K F i made l) where
@@ -57,6 +59,22 @@ module _ (K : Kind) {F made : ℕ} {i : Instruction} {l : K.Lists} (p : Steppabl
 
   pub reciprocal_scaled : {a : ℕ} → i ≡ Reciprocal a → F ≤ top_reciprocal_scale
   reciprocal_scaled e = (smaller_as e).0
+
+-- a value that an operand names
+module _ {K : Kind} (law : Lawful K) {made a : ℕ} {l : K.Lists} {x : K.Value} where
+  pub operand_of : Named K made a l → Stands K a l x → Operand K made a l x
+  operand_of n s =
+      let e = s.is made n.below n.room in
+      record {
+        is = e;
+        is_legal = subst K.Legal (sym e) (all_at n.legal a K.nothing (omega (arith, law.front_many made l n.room, n.below)));
+      }
+
+  pub operand_legal : Named K made a l → Stands K a l x → K.Legal x
+  operand_legal n s = (operand_of n s).is_legal
+
+pub named_inside : {K : Kind} {made a : ℕ} {l : K.Lists} → Named K made a l → a < K.room l
+named_inside n = omega (arith, n.below, n.room)
 
 -- a constant as the code reads it is the constant
 read_back : (c : ℤ) → Allowed c → back c ≡ c

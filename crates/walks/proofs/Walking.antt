@@ -6,13 +6,15 @@ use native.Mathlib.Omega.{arith}
 use lib.ListN.{length, length-append}
 use mir.Syntax.{w64}
 use mir.Val.{Fits}
-use Rattle.whole.proofs.Cases.{less}
+use Rattle.std.specs.declared.result.Result.{Result}
+use Rattle.std.specs.declared.result.Result.TheVariants.{Ok, Err}
+use Rattle.refusals.specs.Places.{because, meant_bare}
 use Rattle.lists.specs.All.{All}
 use Rattle.lists.specs.Each.{Each}
 use Rattle.lists.proofs.Each.{all_behind}
 use Rattle.refusals.specs.declared.Refusal.{Refusal}
 use Rattle.refusals.specs.Refusals.{refusal_number}
-use Rattle.refusals.specs.Answer.{Answer, value, refuse}
+use Rattle.refusals.specs.Answer.{Answer, value}
 use Rattle.refusals.specs.Said.{refuses}
 use Rattle.refusals.proofs.Answers.{same_value}
 use Rattle.bits.specs.declared.Cursor.{Cursor}
@@ -22,8 +24,8 @@ use Rattle.formulas.specs.declared.Header.{Header}
 use Rattle.formulas.specs.declared.Instruction.{Instruction}
 use Rattle.formulas.specs.Formula.{places}
 use Rattle.formulas.specs.Run.{Walk, with_values, run, made_by, walk_end}
-use Rattle.formulas.specs.Kinds.{Kind}
-use Rattle.formulas.proofs.Lawful.{Lawful}
+use Rattle.formulas.specs.Kinds.{Kind, Puts}
+use Rattle.formulas.specs.Lawful.{Lawful}
 use Rattle.packed.specs.Items.{read}
 use Rattle.packed.specs.Format.{results, all_wide}
 use Rattle.packed.specs.Meaning.{meant}
@@ -32,7 +34,6 @@ use Rattle.packed.specs.declared.loaded.Loaded.{Loaded}
 use Rattle.packed.specs.Loading.{place_of, Loads}
 use Rattle.packed.proofs.Shapes.{decodes_place, readable_place}
 use Rattle.packed.proofs.Formed.{Formed, formed, limits_of}
-use Rattle.walks.specs.declared.Walked.TheVariants.{Finished, Stopped}
 use Rattle.walks.specs.Walks.{Walkable, AtOutputs, walk_of, Walks, Steppable, Stepped}
 use Rattle.walks.proofs.Onward.{Goes, run_goes, Onward, onward_start, onward_readable, onward_smaller, onward_each, onward_more}
 use Rattle.walks.proofs.Onward.{onward_stops, onward_ends, onward_stands}
@@ -137,20 +138,15 @@ module _ {K : Kind} (law : Lawful K) {s : List ℕ} {h : Header} where
     leaves : {r : Walk K.Value} → made_by r ≡ w.values → walk_of K s h old ≡ r → K.Holds (made_by (walk_of K s h old)) old now
     leaves m e = subst (λ (vs : List K.Value). K.Holds vs old now) (sym (ap made_by e ∙ m)) w.holds
 
-    pub walking_ends : k ≡ h.instructions → Walks K s h old now (Finished c)
-    walking_ends e =
+    pub walking_ends : h.instructions ≤ k → Walks K s h old now (Ok c)
+    walking_ends l =
+        let e : k ≡ h.instructions = omega (arith, few) in
         let r = whole (onward_ends goes w.onward e) in
         record { says = sym (ap (walk_end h.inputs) r); holds = leaves refl r; stands = formula_stands goes w.formula_there w.onward e }
 
-    module _ (more : k ≡ h.instructions → ⊥) where
-      next : k < h.instructions
-      next = less few more
-
+    module _ (next : k < h.instructions) where
       pub walking_inside : h.inputs + k < K.room now
       walking_inside = omega (arith, next, w.room, walking_room)
-
-      pub walking_less : h.instructions - (k + 1) < h.instructions - k
-      walking_less = omega (arith, next)
 
       pub walking_within : c.at ≤ 2 ^ 30
       walking_within = omega (arith, formula_near goes w.formula_there w.onward)
@@ -175,19 +171,20 @@ module _ {K : Kind} (law : Lawful K) {s : List ℕ} {h : Header} where
             → K.rule h.scale (with_values K.nothing w.values i) ≡ a
         stepped e = sym (e.by_rule ∙ ap (λ (vs : List K.Value). K.rule h.scale (with_values K.nothing vs i)) seen)
 
-        pub walking_stops : {a : Answer K.Value} {q : Refusal} → Stepped K h.scale i (h.inputs + k) now a → a ≡ refuse q → Walks K s h old now (Stopped q k)
-        walking_stops {q = q} t u =
-            let r = whole (onward_stops goes w.onward next decodes (stepped t ∙ u)) in
+        pub walking_stops : {V : Type 0} (f : V → K.Value) {a : Result V Refusal} {q : Refusal} → Stepped K h.scale i (h.inputs + k) now (meant_bare f a)
+            → a ≡ Err q → Walks K s h old now (Err (because q k))
+        walking_stops f {q = q} t u =
+            let r = whole (onward_stops goes w.onward next decodes (stepped t ∙ ap (meant_bare f) u)) in
             record { says = ap (refuses (refusal_number q)) place ∙ sym (ap (walk_end h.inputs) r); holds = leaves refl r; stands = tt }
           where
             place : k ≡ length w.values - h.inputs
             place = omega (arith, w.many)
 
-        pub walking_more : {a : Answer K.Value} {v : K.Value} {then : K.Lists} → Stepped K h.scale i (h.inputs + k) now a → a ≡ value v
-            → (K.Holds w.values old now → length w.values ≡ h.inputs + k → K.Legal v → K.Holds (w.values ++ v ∷ []) old then)
-            → Walking K s h e (k + 1) old then
-        walking_more {v = v} t u p =
-            let r = stepped t ∙ u in
+        pub walking_more : {V : Type 0} (f : V → K.Value) {a : Result V Refusal} {x : V} {new : K.Lists}
+            → Stepped K h.scale i (h.inputs + k) now (meant_bare f a) → a ≡ Ok x → Puts K (h.inputs + k) (f x) now new → Walking K s h e (k + 1) old new
+        walking_more f {x = x} {new = new} t u p =
+            let v = f x in
+            let r = stepped t ∙ ap (meant_bare f) u in
             let legal = law.rule_legal h.scale (with_values K.nothing w.values i) r in
             record {
               formula_there = w.formula_there;
@@ -196,5 +193,7 @@ module _ {K : Kind} (law : Lawful K) {s : List ℕ} {h : Header} where
               onward = onward_more goes w.onward next decodes r;
               legal = all_behind w.legal legal;
               many = omega (arith, length-append w.values (v ∷ []), w.many);
-              holds = p w.holds w.many legal;
+              holds =
+                  law.holds_over w.values (w.values ++ v ∷ []) old now new (omega (arith, length-append w.values (v ∷ []))) w.holds
+                  (subst (λ (vs : List K.Value). K.Holds (vs ++ v ∷ []) now new) seen p.holds);
             }

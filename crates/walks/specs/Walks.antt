@@ -1,7 +1,10 @@
 -- A walk over a checked formula's instructions, once for the three kinds: what it asks, what it leaves in the work
 -- lists, and how it ends.
 use Rattle.std.specs.Prelude.{◌≡◌, List, ℕ, ◌+◌, ◌^◌, ◌≤◌, ◌<◌, get_or}
+use Rattle.std.specs.declared.result.Result.{Result}
+use Rattle.refusals.specs.declared.Refused.{Refused}
 use Rattle.lists.specs.All.{All}
+use Rattle.std.specs.declared.result.Result.TheVariants.{Ok, Err}
 use Rattle.refusals.specs.Refusals.{refusal_number}
 use Rattle.refusals.specs.Answer.{Answer, value}
 use Rattle.refusals.specs.Said.{Said, answered, refuses}
@@ -13,12 +16,10 @@ use Rattle.formulas.specs.declared.Header.{Header}
 use Rattle.formulas.specs.declared.Instruction.{Instruction}
 use Rattle.formulas.specs.Formula.{Smaller, places}
 use Rattle.formulas.specs.Run.{Walk, with_values, run, made_by, walk_end}
-use Rattle.formulas.specs.Kinds.{Kind}
+use Rattle.formulas.specs.Kinds.{Kind, Stands, Puts}
 use Rattle.packed.specs.Items.{read}
 use Rattle.packed.specs.Format.{results, all_wide}
 use Rattle.packed.specs.Meaning.{meant, checked}
-use Rattle.walks.specs.declared.Walked.{Walked}
-use Rattle.walks.specs.declared.Walked.TheVariants.{Finished, Stopped}
 
 -- h is the header of the formula in s, the lists have room for all its values, and its inputs stand in front
 pub record Walkable (K : Kind) (s : List ℕ) (h : Header) (l : K.Lists) : Type 0 where
@@ -26,10 +27,14 @@ pub record Walkable (K : Kind) (s : List ℕ) (h : Header) (l : K.Lists) : Type 
   pub room : places h ≤ K.room l
   pub legal : All K.Legal (K.front h.inputs l)
 
+-- where a walk came to, or the refusal and the instruction that was refused
+abbrev pub Walked : Type 0
+Walked = Result Cursor Refused
+
 -- the number and place for each way to end
 abbrev pub walked_said : Walked → Said
-walked_said (Finished d) = answered 0
-walked_said (Stopped r k) = refuses (refusal_number r) k
+walked_said (Ok d) = answered 0
+walked_said (Err e) = refuses (refusal_number e.why) e.place
 
 -- the cursor stands after the header's 32 bits and those of all the instructions, where the output fields begin
 pub record AtOutputs (s : List ℕ) (d : Cursor) : Type 0 where
@@ -40,8 +45,8 @@ pub record AtOutputs (s : List ℕ) (d : Cursor) : Type 0 where
   pub are : all.got ≡ (meant s).results
 
 abbrev pub StandsAfter : List ℕ → Walked → Type 0
-StandsAfter s (Finished d) = AtOutputs s d
-StandsAfter s (Stopped r k) = Unit {0}
+StandsAfter s (Ok d) = AtOutputs s d
+StandsAfter s (Err e) = Unit {0}
 
 abbrev pub walk_of : (K : Kind) → List ℕ → Header → K.Lists → Walk K.Value
 walk_of K s h l = run (K.rule h.scale) K.nothing (meant s).program (K.front h.inputs l)
@@ -52,6 +57,12 @@ pub record Walks (K : Kind) (s : List ℕ) (h : Header) (old new : K.Lists) (r :
   pub says : walked_said r ≡ walk_end h.inputs (walk_of K s h old)
   pub holds : K.Holds (made_by (walk_of K s h old)) old new
   pub stands : StandsAfter s r
+
+-- value o of the work lists, put as output k
+pub record Gives (K : Kind) (k o : ℕ) (work old new : K.Lists) : Type 0 where
+  pub given : K.Value
+  pub stands : Stands K o work given
+  pub puts : Puts K k given old new
 
 -- what reading the value that an operand names asks, of the first `made`, and gives
 pub record Named (K : Kind) (made i : ℕ) (l : K.Lists) : Type 0 where

@@ -20,7 +20,7 @@ rest_lt (pos a) h = mod-lt a h
 rest_lt (negsuc a) h = omega arith
 
 -- −(k·q + t + 1) is −(k + 1)·q and q − (t + 1) above that
-below_zero : (k t r : ℕ) {q : ℕ} → r + (t + 1) ≡ q → negsuc (k * q + t) ≡ negsuc k *ℤ pos q +ℤ pos r
+pub below_zero : (k t r : ℕ) {q : ℕ} → r + (t + 1) ≡ q → negsuc (k * q + t) ≡ negsuc k *ℤ pos q +ℤ pos r
 below_zero k t r {q} e =
     ap negsuc (ap (λ (n : ℕ). k * n + t) (sym e))
     ∙ ap (λ (n : ℕ). neg_ℤ (pos n)) one_more

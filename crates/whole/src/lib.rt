@@ -8,19 +8,12 @@ ghost use Rattle.whole.specs.Limits.{is_below};
 pub fn magnitude(x: i64) -> u64
     ensures { result ≡ nat_abs x }
 {
-    if x < 0 {
-        ((-1 - x) as u64) + 1
-    } else {
-        x as u64
-    }
+    x.unsigned_abs()
 }
 
 // Whether a number is from 0 on and below `limit`.
 pub fn below(z: i64, limit: u64) -> bool
     ensures { result ≡ is_below limit z }
 {
-    if z < 0 {
-        return false;
-    }
-    magnitude(z) < limit
+    0 <= z && magnitude(z) < limit
 }

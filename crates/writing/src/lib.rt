@@ -22,22 +22,15 @@ impl Writer {
         let count = self.count + width;
         let at = self.at;
         if count < 32 {
-            return Writer {
-                at: at,
-                count: count,
-                held: held,
-            };
+            return Writer { at, count, held };
         }
         let rest = count - 32;
-        let word = held >> rest;
-        out[at] = ((word >> 24) % 256) as u8;
-        out[at + 1] = ((word >> 16) % 256) as u8;
-        out[at + 2] = ((word >> 8) % 256) as u8;
-        out[at + 3] = (word % 256) as u8;
+        let word = ((held >> rest) % 0x1_0000_0000) as u32;
+        out[at..at + 4].copy_from_slice(&word.to_be_bytes());
         Writer {
             at: at + 4,
             count: rest,
-            held: held,
+            held,
         }
     }
 
@@ -47,15 +40,14 @@ impl Writer {
         ensures { Wrote (last_bytes self.count self.held) self.at
             out.old out.new result }
     {
-        let padding = (8 - self.count % 8) % 8;
+        let bytes = self.count.div_ceil(8);
+        let padding = 8 * bytes - self.count;
         let held = self.held << padding;
-        let mut count = self.count + padding;
-        let mut at = self.at;
-        while 8 <= count {
-            count = count - 8;
-            out[at] = ((held >> count) % 256) as u8;
-            at = at + 1;
+        let end = self.at + bytes as usize;
+        // As one copy these few bytes would be a call of memcpy, which takes longer.
+        for k in (0..bytes).rev() {
+            out[end - 1 - k as usize] = ((held >> (8 * k)) % 256) as u8;
         }
-        at
+        end
     }
 }

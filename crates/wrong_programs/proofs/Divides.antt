@@ -8,8 +8,10 @@ use lib.Dec.{lit≤}
 use lib.IntN.{ℤ, pos, negsuc}
 use lib.ListN.{replicate}
 use Rattle.lists.specs.Joined.{Rel}
+use Rattle.std.specs.declared.result.Result.TheVariants.{Ok, Err}
+use Rattle.refusals.specs.Places.{because}
+use Rattle.refusals.specs.Said.{Reply}
 use Rattle.refusals.specs.declared.Refusal.TheVariants.{MayBeZero}
-use Rattle.refusals.specs.declared.Reply.TheVariants.{Done, Refused}
 use Rattle.refusals.specs.Answer.{value}
 use Rattle.refusals.specs.Said.{reply_said}
 use Rattle.refusals.proofs.Answers.{same_value}
@@ -144,7 +146,7 @@ in_domain = Near.one (lit≤ tt) refl (lit≤ tt) Near.none
 abbrev idle : Lent plain_kind
 idle = lent plain_kind (replicate 2 (pos 0)) (replicate 1 (pos 0))
 
-refused_at_zero : Kept plain_kind (formula inverse_bytes) (pos 0 ∷ []) idle idle (Refused MayBeZero 0)
+refused_at_zero : Kept plain_kind (formula inverse_bytes) (pos 0 ∷ []) idle idle (Err (because MayBeZero 0))
 unfolding to_bits bits number field tested_field header by_code instruction several is_padding body formula judged readings_tested start job
 refused_at_zero = record { says = refl; works = refl; gives = refl }
 
@@ -158,9 +160,9 @@ forgets_the_stray_fails q =
           never_both
           (sym
           (ap reply_said
-          (subst Runs (is_inverse a.means) (a.plain_runs in_domain idle {new = idle} (Refused MayBeZero 0)) refl refused_at_zero)));
+          (subst Runs (is_inverse a.means) (a.plain_runs in_domain idle {new = idle} (Err (because MayBeZero 0))) refl refused_at_zero)));
     }
   where
     Runs : Formula → Type 0
-    Runs f = LongEnough plain_kind f.header idle → Kept plain_kind (formula inverse_bytes) (pos 0 ∷ []) idle idle (Refused MayBeZero 0)
-        → Refused MayBeZero 0 ≡ Done 1
+    Runs f = LongEnough plain_kind f.header idle → Kept plain_kind (formula inverse_bytes) (pos 0 ∷ []) idle idle (Err (because MayBeZero 0))
+        → ◌≡◌ {A = Reply} (Err (because MayBeZero 0)) (Ok 1)

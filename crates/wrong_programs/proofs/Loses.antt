@@ -7,7 +7,7 @@ use lib.Dec.{lit≤}
 use lib.IntN.{pos}
 use lib.ListN.{replicate}
 use Rattle.lists.specs.Joined.{Rel}
-use Rattle.refusals.specs.declared.Reply.TheVariants.{Done}
+use Rattle.std.specs.declared.result.Result.TheVariants.{Ok}
 use Rattle.refusals.specs.Answer.{value}
 use Rattle.refusals.proofs.Answers.{same_value}
 use Rattle.bits.specs.Bits.{to_bits, bits, number}
@@ -122,7 +122,7 @@ after = lent plain_kind (pos 80 ∷ pos 2 ∷ pos 10 ∷ []) (pos 10 ∷ [])
 in_domain : InDomain admitting.readings reading
 in_domain = Near.one (lit≤ tt) refl (lit≤ tt) Near.none
 
-bare : Kept plain_kind (formula tenth_bytes) (pos 80 ∷ []) before after (Done 1)
+bare : Kept plain_kind (formula tenth_bytes) (pos 80 ∷ []) before after (Ok 1)
 unfolding to_bits bits number field tested_field twos_complement header by_code instruction several is_padding body formula meant h Round Up within_reach judged readings_tested start job
 bare = record { says = refl; works = refl; gives = refl }
 
@@ -133,10 +133,10 @@ margins_as_strays_fails q =
       at = admitting;
       refuses = λ k.
           outside (lit≤ tt)
-          (subst Close (is_tenth k.means) (k.answers_close in_domain before {new = after} (Done 1)) refl bare (five ∷ []) all chosen exactly);
+          (subst Close (is_tenth k.means) (k.answers_close in_domain before {new = after} (Ok 1)) refl bare (five ∷ []) all chosen exactly);
     }
   where
     Close : Formula → Type 0
-    Close f = LongEnough plain_kind f.header before → Kept plain_kind (formula tenth_bytes) (pos 80 ∷ []) before after (Done 1)
+    Close f = LongEnough plain_kind f.header before → Kept plain_kind (formula tenth_bytes) (pos 80 ∷ []) before after (Ok 1)
         → (xs ys : List Fraction) → Chosen f.header.scale reading xs → ExactRun f.header.scale f.program xs ys
         → Rel (Contains f.header.scale) (balls (pos 10 ∷ []) (1 ∷ [])) (exact_outputs f ys)

@@ -1,9 +1,9 @@
 -- Request e: three programs that divide wrongly, and the demands that they break. In each q is any program again.
 use Rattle.std.specs.Prelude.{◌≡◌, cond, map, ℕ, ◌-◌, ◌*◌, leb, ℤ, pos, nat_abs, ◌+ℤ◌, ◌*ℤ◌}
 use Rattle.std.specs.Int.Signed.{quot_z}
+use Rattle.std.specs.declared.result.Result.TheVariants.{Ok}
 use Rattle.refusals.specs.declared.Refusal.TheVariants.{MayBeZero}
-use Rattle.refusals.specs.declared.Reply.{Reply}
-use Rattle.refusals.specs.declared.Reply.TheVariants.{Done}
+use Rattle.refusals.specs.Said.{Reply}
 use Rattle.refusals.specs.Answer.{Answer, refuse}
 use Rattle.rules.specs.declared.Ball.{Ball}
 use Rattle.rules.specs.declared.Matryoshka.{Matryoshka}
@@ -59,7 +59,7 @@ without_stray F =
     (within_reach matryoshka_reach (matryoshka_reciprocal F x))) (matryoshka_rule F)
 
 abbrev pub done_if : {A : Type 0} → Walk A → ℕ → Reply → Reply
-done_if (finished vs) n r = Done n
+done_if (finished vs) n r = Ok n
 done_if (stopped m vs) n r = r
 
 abbrev pub forgets_the_stray : Program matryoshka_kind → Program matryoshka_kind
@@ -72,4 +72,4 @@ forgets_the_stray q i =
 
 -- demand 3 of a program that says that it is done
 abbrev pub AdmitsIfDone : Input matryoshka_kind → Outcome matryoshka_kind → Type 0
-AdmitsIfDone i o = o.reply ≡ Done (asked i) → Admitted i.bytes i.readings o.left (asked i)
+AdmitsIfDone i o = o.reply ≡ Ok (asked i) → Admitted i.bytes i.readings o.left (asked i)

@@ -2,9 +2,10 @@
 -- one that tells a later reading than the lowest bad one.
 use Rattle.std.specs.Prelude.{List, map, ℕ, ℤ, pos, get_or, take, replicate}
 use Rattle.lists.specs.Over.{over}
+use Rattle.std.specs.declared.result.Result.TheVariants.{Err}
+use Rattle.refusals.specs.Places.{because}
 use Rattle.refusals.specs.declared.Refusal.{Refusal}
-use Rattle.refusals.specs.declared.Reply.{Reply}
-use Rattle.refusals.specs.declared.Reply.TheVariants.{Refused}
+use Rattle.refusals.specs.Said.{Reply}
 use Rattle.rules.specs.declared.Ball.{Ball}
 use Rattle.rules.specs.Plain.{plain_rule}
 use Rattle.rules.specs.Lists.{ball_lists}
@@ -48,7 +49,7 @@ asked i = (meant i.bytes).header.outputs
 
 -- "an admission that refuses all formulas", for whatever reason
 abbrev pub refuses_all : (Input matryoshka_kind → Refusal) → Program matryoshka_kind → Program matryoshka_kind
-refuses_all why q i = record { reply = Refused (why i) 0; left = (q i).left }
+refuses_all why q i = record { reply = Err (because (why i) 0); left = (q i).left }
 
 -- "a run that returns the same ball each time"
 abbrev pub same_ball : Ball → Program ball_kind → Program ball_kind
@@ -82,4 +83,4 @@ first_only q i =
 -- request c, "for the lowest bad reading": a run that tells reading 1, for whatever reason, as one does that tells the
 -- highest bad reading, or a negative margin before an earlier reading's reach
 abbrev pub tells_second : (Input ball_kind → Refusal) → Program ball_kind → Program ball_kind
-tells_second why q i = record { reply = Refused (why i) 1; left = (q i).left }
+tells_second why q i = record { reply = Err (because (why i) 1); left = (q i).left }

@@ -1,4 +1,4 @@
--- `put_ball` meets its contract: each part has its room, and all were written. Assumes nothing.
+-- Each part has its room, and all were written.
 use Rattle.decimal_printer.proofs.Printing.{between_room, margin_room, wrote_ball}
 use Rattle.decimal_printer.proofs.put_ball.Goals as goal
 

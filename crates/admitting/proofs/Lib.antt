@@ -1,2 +1,0 @@
--- The laws of the admit run.
-pub mod Copying

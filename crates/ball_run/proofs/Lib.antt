@@ -1,2 +1,0 @@
--- The laws of the ball run.
-pub mod Copying

@@ -1,0 +1,7 @@
+-- Those before `below` were passed.
+use Rattle.packed.specs.Format.{instruction, widest}
+use Rattle.checking.proofs.Several.{Passing}
+use Rattle.checking.proofs.passing.pass_instructions.Given as goal
+
+abbrev pub invariant-loop-below : goal.invariant-loop-below
+invariant-loop-below l = Passing (instruction l.scale) widest l.s l.initial.at l.inputs l.count l.at l.below

@@ -1,2 +1,0 @@
--- What copying a domain asks and leaves.
-pub mod Copying

@@ -1,0 +1,13 @@
+-- A matryoshka's fields, one behind the other. Assumes nothing.
+use Rattle.std.proofs.Common.{rules}
+use Rattle.listing.proofs.Line.{rooms, wrote_matryoshka}
+use Rattle.listing.proofs.lines.MatryoshkaFields.put.Goals as goal
+
+pub put_marked-strayed-requires : goal.put_marked-strayed-requires
+put_marked-strayed-requires c = search rooms
+
+pub put_marked-requires : goal.put_marked-requires
+put_marked-requires c = search rooms
+
+pub returns : goal.returns
+returns c = search (wrote_matryoshka, rules)

@@ -1,2 +1,0 @@
--- The laws of the plain run.
-pub mod Copying

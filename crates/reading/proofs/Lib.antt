@@ -1,0 +1,2 @@
+-- The laws of the readers.
+pub mod Found

@@ -1,0 +1,2 @@
+-- What a division gives.
+pub mod Nearest

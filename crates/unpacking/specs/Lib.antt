@@ -1,2 +1,0 @@
--- When lent lists are enough for a formula.
-pub mod Fillable

@@ -1,2 +1,0 @@
--- The laws of the formula's line and the job's word.
-pub mod NamedLines
