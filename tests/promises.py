@@ -1,18 +1,28 @@
 """Holds the table "Every public function leaves nothing open" in docs/PROMISES.md against the code: each public function is
-named there once with its crate, and nothing else is."""
+named there once with its crate, and nothing else is. A function that a public trait declares is `Trait::name` there, and one
+that a public type has from `Display` or `From` is `Type::name`."""
 import re
 import sys
 from pathlib import Path
 
 ROOT = Path(__file__).resolve().parent.parent
 
+FUNCTION = re.compile(r'^\s*pub (?:extern "C" )?fn (\w+)', re.MULTILINE)
+TYPE = re.compile(r"^pub (?:struct|enum) (\w+)", re.MULTILINE)
+# The block's name, and its lines up to the brace at their left.
+TRAIT = re.compile(r"^pub trait (\w+)[^{]*\{\n(.*?)^\}", re.MULTILINE | re.DOTALL)
+GIVEN = re.compile(r"^impl(?:<[^>]*>)? (?:\w+::)*(?:Display|From<.*>) for (?:\w+::)*(\w+)[^{]*\{\n(.*?)^\}", re.MULTILINE | re.DOTALL)
+METHOD = re.compile(r"^\s+fn (\w+)", re.MULTILINE)
+
 
 def in_code():
+    sources = [(path.relative_to(ROOT / "crates").parts[0], path.read_text()) for path in sorted((ROOT / "crates").glob("*/src/**/*.rt"))]
+    types = {name for _, text in sources for name in TYPE.findall(text)}
     found = set()
-    for path in sorted((ROOT / "crates").glob("*/src/**/*.rt")):
-        crate = path.relative_to(ROOT / "crates").parts[0]
-        for name in re.findall(r'^\s*pub (?:extern "C" )?fn (\w+)', path.read_text(), re.MULTILINE):
-            found.add((crate, name))
+    for crate, text in sources:
+        found |= {(crate, name) for name in FUNCTION.findall(text)}
+        blocks = TRAIT.findall(text) + [block for block in GIVEN.findall(text) if block[0] in types]
+        found |= {(crate, f"{owner}::{name}") for owner, body in blocks for name in METHOD.findall(body)}
     return found
 
 
@@ -24,7 +34,7 @@ def in_table():
         for part in cell.split(" · "):
             crates, names = part.split(":", 1)
             for crate in re.findall(r"`(\w+)`", crates):
-                for name in re.findall(r"`(\w+)`", names):
+                for name in re.findall(r"`([\w:]+)`", names):
                     yield crate, name
 
 

@@ -3,7 +3,8 @@ pub mod Rest
 pub mod Carried
 pub mod Admitted
 pub mod Graded
-pub mod Written
+pub mod Picked
+pub mod Filed
 pub mod Made
 pub mod Kept
 pub mod OneCard

@@ -1,6 +1,6 @@
 -- Request j, making a card, in parts: the tests, the admission, the ball run and the slopes in lists that are long enough for
 -- every formula, and the outputs' numbers written last.
-use Rattle.std.specs.Prelude.{◌≡◌, List, map, ℕ, ◌-◌, ◌*◌, ◌≤◌, ℤ, nat_abs, length, get_or}
+use Rattle.std.specs.Prelude.{◌≡◌, List, map, ℕ, ◌-◌, ◌*◌, ◌≤◌, ◌<◌, ℤ, pos, nat_abs, length, get_or, take}
 use Rattle.lists.specs.Over.{over}
 use Rattle.std.specs.declared.result.Result.TheVariants.{Ok, Err}
 use Rattle.refusals.specs.declared.Refusal.TheVariants as refusal
@@ -108,6 +108,28 @@ pub record Slopes (s : List ℕ) (h : Header) (cs ss : List ℤ) (old new : List
   pub stands : StandsAfter s r
 
 -- ---- the outputs' numbers
+
+-- n outputs are named, each of a value that the work list has, and there is room for their numbers
+pub record Pickable (os : List ℤ) (n : ℕ) (work out : List ℕ) : Type 0 where
+  pub named : n ≤ length os
+  pub below : (j : ℕ) → j < n → nat_abs (get_or os j (pos 0)) < all_places
+  pub there : all_places ≤ length work
+  pub room : n ≤ length out
+
+abbrev pub picked_numbers : List ℤ → ℕ → List ℕ → List ℕ
+picked_numbers os n work = map (λ z. get_or work (nat_abs z) 0) (take n os)
+
+-- and so of m slopes each
+pub record RowsPickable (os : List ℤ) (n m : ℕ) (work out : List ℕ) : Type 0 where
+  pub named : n ≤ length os
+  pub outputs_few : n ≤ 16
+  pub inputs_few : m ≤ 16
+  pub below : (j : ℕ) → j < n → nat_abs (get_or os j (pos 0)) < all_places
+  pub there : all_slopes ≤ length work
+  pub room : n * m ≤ length out
+
+abbrev pub picked_rows : List ℤ → ℕ → ℕ → List ℕ → List (List ℕ)
+picked_rows os n m work = map (λ z. row m (nat_abs z * m) work) (take n os)
 
 -- a card's numbers in work lists, and room for them
 pub record Writable (s : List ℕ) (h : Header) (c : Cursor) (margins slopes : List ℕ) (old : CardLists) : Type 0 where

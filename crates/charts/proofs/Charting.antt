@@ -1,5 +1,5 @@
 -- The chart's run in the code's shape: it is the ball run in lists that are long enough, then the doubles of its outputs. Assumes nothing.
-use mathlib.Core.Path.{◌≡◌, refl, sym, ◌∙◌, ap, subst}
+use mathlib.Core.Path.{◌≡◌, refl, sym, ◌∙◌, ap, ap₂, subst}
 use mathlib.Core.List.{List}
 use Prim.Native.Nat.{ℕ, ◌≤◌}
 use native.Mathlib.Omega.{arith}
@@ -55,10 +55,10 @@ charted_refused {s} {given} {work} {new} {chart} {j} {q} {k} e u h =
     }
 
 -- what a run does next, in lists with so many places
-module _ {s : List ℕ} {given : BallReadings} (wc : List ℤ) (wm : List ℕ) (oc om : List Float) {output : ℕ} {r : Start}
-    (ready : Ready ball_kind s given (ball_kind.room (ball_lists wc wm)) output r) (o : output ≡ least (length oc) (length om)) where
+module _ {s : List ℕ} {given : BallReadings} (wc : List ℤ) (wm : List ℕ) (oc om : List Float) {work output : ℕ} {r : Start}
+    (ready : Ready ball_kind s given work output r) (w : work ≡ ball_kind.room (ball_lists wc wm)) (o : output ≡ least (length oc) (length om)) where
   starts_on : start_says r ≡ started_header ball_kind (start ball_kind (formula s) given (least (length wc) (length wm)) (least (length oc) (length om)))
-  starts_on = ready.answers ∙ ap (λ (n : ℕ). started_header ball_kind (start ball_kind (formula s) given (least (length wc) (length wm)) n)) o
+  starts_on = ready.answers ∙ ap₂ (λ (m n : ℕ). started_header ball_kind (start ball_kind (formula s) given m n)) w o
 
   pub chart_begins : {h : Header} → r ≡ Ok h → Begins s h given (chart_lent (ball_lists wc wm) (chart_lists oc om))
   chart_begins t = record { starts_with = by_case start_says starts_on t }

@@ -10,6 +10,7 @@ use doubles::pair_of;
 use lists::least_of;
 use refusals::Refused;
 use running::{carry_out, ready};
+use walks::Job;
 
 // The balls at the front of two lists, as pairs of doubles to the front of two others.
 fn draw(
@@ -60,7 +61,7 @@ pub fn run(
         output_margins: &mut output_margins,
     };
     let output = least_of(chart_centres.len(), chart_margins.len());
-    let h = ready(s, &job, output)?;
+    let h = ready(s, &job, job.room(), output)?;
     let n = carry_out(s, h, &mut job)?;
     draw(
         h.scale,

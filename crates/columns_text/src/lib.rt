@@ -5,29 +5,28 @@ ghost use Rattle.lists.specs.Written.{Wrote};
 ghost use Rattle.columns_text.specs.JobLines.{lines_text};
 ghost use Rattle.columns_text.specs.ColumnsRead.{SecondRead};
 
-use parsing::word::Job;
 use refusals::Refusal;
 use rows::column;
 use telling::put_refused;
 
 // Two columns are read, and there are two or more.
 pub fn by_second(
-    job: Job,
+    k: usize,
     formula: &[u8],
     first: &[i64],
     second: &[i64],
     lines: &[u8],
     out: &mut [u8],
 ) -> usize
-    requires { SecondRead job lines.now first.now second.now out.old }
-    ensures { Wrote (lines_text job formula.now lines.now)
+    requires { SecondRead k lines.now first.now second.now out.old }
+    ensures { Wrote (lines_text k formula.now lines.now)
         0 out.old out.new result }
 {
-    if job == Job::Ball {
+    if k == 2 {
         return ball_text::answer(formula, first, second, out);
     }
     let mut third = [0; 8192];
-    let Some(n) = column::read(lines, job.numbers(), 2, &mut third) else {
+    let Some(n) = column::read(lines, k, 2, &mut third) else {
         return put_refused(Refusal::AnotherForm.into(), out);
     };
     admit_text::answer(formula, first, second, &third[..n], out)

@@ -1,5 +1,5 @@
 -- A reciprocal as a quotient of T, and the spread between reciprocals rounded up. Assumes nothing.
-use mathlib.Core.Path.{◌≡◌, refl, ◌∙◌, ap, ap₂}
+use mathlib.Core.Path.{◌≡◌, refl, sym, ◌∙◌, ap, ap₂}
 use mathlib.Core.Bool.{Bool, true, false, cond}
 use mathlib.Core.List.{[], ◌∷◌}
 use Prim.Native.Nat.{ℕ, suc, ◌+◌, ◌-◌, ◌*◌, ◌/◌, ◌%◌, ◌^◌, ◌≤◌, ◌<◌, min}
@@ -9,6 +9,7 @@ use borrow.Author.Tests.{ltb-true, eqb-true, eqb-false}
 use lib.Dec.{eqb}
 use lib.IntN.{ℤ, pos, negsuc, nat_abs, ◌+ℤ◌}
 use lib.Signed.{lt_z, shr_z}
+use mir.Val.{bool_byte}
 use Rattle.rules.specs.Numbers.{M, ceiling}
 use Rattle.rules.specs.Reciprocals.{T, top_reciprocal_scale, Inverse, inexact}
 use Rattle.rules.proofs.Quotients.{ceiling_small}
@@ -18,7 +19,7 @@ use Rattle.whole.proofs.Machine.{back}
 use Rattle.whole.proofs.Ring.{ring, lit, neg, ◌⊗◌, x₀}
 use Rattle.reciprocals.specs.Nearest.{nearest, unless_divides, signed}
 use Rattle.reciprocals.proofs.Steps.{kept, size_is}
-use Rattle.reciprocals.proofs.Quotients.{size_signed}
+use Rattle.reciprocals.proofs.Quotients.{size_signed, rounded, size_rounded, exact_is, bit_most}
 
 -- ---- rounded up
 
@@ -67,6 +68,19 @@ inverse_nearest F a = by_sign a (lt_z a (pos 0)) refl
         ap (λ (z : ℤ). shr_z (z +ℤ pos (suc m)) (2 * suc m))
         (ring (pos (T F) ∷ []) (lit (pos 2) ⊗ neg x₀) (lit (negsuc 0) ⊗ (lit (pos 2) ⊗ x₀)) refl)
     by_sign (negsuc m) false e = never e
+
+-- |c|·|a| is T exactly where a divides T: no second division
+module _ (F : ℕ) (a : ℤ) (away : 0 < nat_abs a) where
+  -- |c| is what the machine divides
+  size_inverse : nat_abs (Inverse F a) ≡ rounded (T F) (nat_abs a) (bool_byte (lt_z a (pos 0)))
+  size_inverse = ap nat_abs (sym (inverse_nearest F a)) ∙ size_rounded (lt_z a (pos 0)) (T F) away
+
+  pub missed_is : cond {A = ℕ} (eqb (nat_abs (Inverse F a) * nat_abs a) (T F)) 0 1 ≡ inexact F a
+  unfolding inexact
+  missed_is =
+      ap (λ (n : ℕ). cond {A = ℕ} (eqb (n * nat_abs a) (T F)) 0 1) size_inverse
+      ∙ ap (λ (b : Bool). cond {A = ℕ} b 0 1)
+      (exact_is (T F) (nat_abs a) (bool_byte (lt_z a (pos 0))) away (omega (arith, bit_most (lt_z a (pos 0)), away)))
 
 module _ (a : ℤ) {F t n : ℕ} (t_is : (t ≡ T F) × (t ≤ 2 ^ 32)) (g : (F ≤ top_reciprocal_scale) × (0 < nat_abs a) × (nat_abs a ≤ M))
     (size : n ≡ nat_abs (back a)) where

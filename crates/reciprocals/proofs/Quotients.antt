@@ -73,6 +73,11 @@ nearest_below p t some = ap (λ (z : ℤ). shr_z z (2 * t)) same ∙ floor_uniqu
         ∙ ap (λ (m : ℕ). neg_ℤ (pos (k * (2 * t))) +ℤ pos m -ℤ pos (2 * p)) (sym back_up)
         ∙ ring (pos k ∷ pos (2 * t) ∷ pos left ∷ pos (2 * p) ∷ []) (neg (x₀ ⊗ x₁) ⊕ (x₂ ⊕ x₃) ⊖ x₃) (neg x₀ ⊗ x₁ ⊕ x₂) refl
 
+-- the size of the nearest, whatever the sign
+pub size_rounded : (below : Bool) (p : ℕ) {t : ℕ} → 0 < t → nat_abs (nearest (signed below p) t) ≡ rounded p t (bool_byte below)
+size_rounded true p {t} some = ap nat_abs (nearest_below p t some) ∙ size_minus (rounded p t 1)
+size_rounded false p {t} some = ap nat_abs (nearest_above p t)
+
 -- ---- whether nothing is left
 
 -- the size times t is p if t divides p, and only then: no second division
@@ -107,7 +112,7 @@ module _ (p t less : ℕ) (some : 0 < t) (little : less ≤ t) where
 
 -- ---- on 64 bits
 
-bit_most : (b : Bool) → bool_byte b ≤ 1
+pub bit_most : (b : Bool) → bool_byte b ≤ 1
 bit_most true = omega arith
 bit_most false = omega arith
 

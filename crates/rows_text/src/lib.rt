@@ -6,27 +6,26 @@ ghost use Rattle.columns_text.specs.JobLines.{lines_text};
 ghost use Rattle.columns_text.specs.ColumnsRead.{Lined};
 
 use columns_text::by_second;
-use parsing::word::Job;
 use refusals::Refusal;
 use rows::column;
 use telling::put_refused;
 
-// What is printed for the bytes of a formula and a job's reading lines.
-pub fn by_lines(job: Job, formula: &[u8], lines: &[u8], out: &mut [u8]) -> usize
-    requires { Lined lines.now out.old }
-    ensures { Wrote (lines_text job formula.now lines.now)
+// What is printed for the bytes of a formula and reading lines of k numbers.
+pub fn by_lines(k: usize, formula: &[u8], lines: &[u8], out: &mut [u8]) -> usize
+    requires { Lined 1 k lines.now out.old }
+    ensures { Wrote (lines_text k formula.now lines.now)
         0 out.old out.new result }
 {
     let mut first = [0; 8192];
-    let Some(n) = column::read(lines, job.numbers(), 0, &mut first) else {
+    let Some(n) = column::read(lines, k, 0, &mut first) else {
         return put_refused(Refusal::AnotherForm.into(), out);
     };
-    if job == Job::Plain {
+    if k == 1 {
         return plain_text::answer(formula, &first[..n], out);
     }
     let mut second = [0; 8192];
-    let Some(m) = column::read(lines, job.numbers(), 1, &mut second) else {
+    let Some(m) = column::read(lines, k, 1, &mut second) else {
         return put_refused(Refusal::AnotherForm.into(), out);
     };
-    by_second(job, formula, &first[..n], &second[..m], lines, out)
+    by_second(k, formula, &first[..n], &second[..m], lines, out)
 }

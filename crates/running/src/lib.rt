@@ -5,7 +5,7 @@
 ghost use Rattle.std.specs.Prelude.{◌≡◌};
 ghost use Rattle.formulas.specs.Job.{roomy, lent, Kept};
 ghost use Rattle.packed.specs.Meaning.{formula};
-ghost use Rattle.running.specs.Ready.{Ready, Begins};
+ghost use Rattle.running.specs.Ready.{Tests, Ready, Begins};
 
 use checking::checking::check;
 use formulas::Header;
@@ -20,16 +20,29 @@ fn enough(h: Header, work: usize, output: usize) -> bool
     h.inputs <= work && h.instructions <= work - h.inputs && h.outputs <= output
 }
 
-// The header of a formula that can be carried out on these readings, with so many places for the outputs, or the refusal.
-pub fn ready<J: Job>(s: &[u8], job: &J, output: usize) -> Result<Header, Refused>
-    ensures { Ready J.kind s.now (J.given job.now) (J.kind.room (J.work job.now)) output result }
+// The header where its readings passed and there is room for its values, or the refusal.
+pub fn tested(
+    h: Header,
+    fit: Result<(), Refused>,
+    work: usize,
+    output: usize,
+) -> Result<Header, Refused>
+    ensures { Tests h fit work output result }
 {
-    let h = check(s)?;
-    job.test(h.inputs)?;
-    if !enough(h, job.room(), output) {
+    let room = enough(h, work, output);
+    fit?;
+    if !room {
         return Err(Refusal::NoRoom.into());
     }
     Ok(h)
+}
+
+// The header of a formula that can be carried out on these readings in lists with so many places, or the refusal.
+pub fn ready<J: Job>(s: &[u8], job: &J, work: usize, output: usize) -> Result<Header, Refused>
+    ensures { Ready J.kind s.now (J.given job.now) work output result }
+{
+    let h = check(s)?;
+    tested(h, job.test(h.inputs), work, output)
 }
 
 // The formula on readings that fit, in memory that is enough.
@@ -53,6 +66,6 @@ pub fn run<J: Job>(s: &[u8], job: &mut J) -> Result<usize, Refused>
         (lent J.kind (J.work job.new) (J.output job.new)) result }
     ensures same_lists { J.names job.new ≡ J.names job.old }
 {
-    let h = ready(s, job, job.output_room())?;
+    let h = ready(s, job, job.room(), job.output_room())?;
     carry_out(s, h, job)
 }

@@ -20,7 +20,7 @@ pub fn by_job(formula: &[u8], job: &[u8], readings: &[u8], out: &mut [u8]) -> us
         return put_refused(Refusal::AnotherForm.into(), out);
     };
     match word::read(job) {
-        Some(job) => by_lines(job, &bytes[..n], readings, out),
+        Some(job) => by_lines(job.numbers(), &bytes[..n], readings, out),
         None => put_refused(Refusal::AnotherForm.into(), out),
     }
 }

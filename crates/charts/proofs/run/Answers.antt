@@ -11,25 +11,25 @@ returns-in_err-h c = let was = c.in_err-h.was in let says = c.ready.ensures in s
 pub carry_out-requires : goal.carry_out-requires
 carry_out-requires c =
     let a = c.args in
-    let begins = chart_begins a.work_centres.now a.work_margins.now a.chart_centres.now a.chart_margins.now c.ready.ensures c.least_of-output.ensures c.in_ok-h.was in
+    let begins = chart_begins a.work_centres.now a.work_margins.now a.chart_centres.now a.chart_margins.now c.ready.ensures c.room.ensures c.least_of-output.ensures c.in_ok-h.was in
     search (local_begins, rules)
 
 pub returns-in_err-n : goal.returns-in_err-n
 returns-in_err-n c =
     let a = c.args in
-    let begins = chart_begins a.work_centres.now a.work_margins.now a.chart_centres.now a.chart_margins.now c.ready.ensures c.least_of-output.ensures c.in_ok-h.was in
+    let begins = chart_begins a.work_centres.now a.work_margins.now a.chart_centres.now a.chart_margins.now c.ready.ensures c.room.ensures c.least_of-output.ensures c.in_ok-h.was in
     let done = local_refused c.carry_out.ensures.kept c.in_err-n.was c.from_residual-in_err-n.ensures.1 begins refl refl in
     search (done, rules)
 
 pub draw-requires : goal.draw-requires
 draw-requires c =
     let a = c.args in
-    let begins = chart_begins a.work_centres.now a.work_margins.now a.chart_centres.now a.chart_margins.now c.ready.ensures c.least_of-output.ensures c.in_ok-h.was in
+    let begins = chart_begins a.work_centres.now a.work_margins.now a.chart_centres.now a.chart_margins.now c.ready.ensures c.room.ensures c.least_of-output.ensures c.in_ok-h.was in
     let done = local_drawable c.carry_out.ensures.kept c.in_ok-n.was begins refl refl in
     search (done, rules)
 
 pub returns : goal.returns
 returns c =
     let a = c.args in
-    let begins = chart_begins a.work_centres.now a.work_margins.now a.chart_centres.now a.chart_margins.now c.ready.ensures c.least_of-output.ensures c.in_ok-h.was in
+    let begins = chart_begins a.work_centres.now a.work_margins.now a.chart_centres.now a.chart_margins.now c.ready.ensures c.room.ensures c.least_of-output.ensures c.in_ok-h.was in
     local_charted {xs = replicate 16 (pos 0)} {ys = replicate 16 0} c.draw.ensures (search (c.carry_out.ensures.kept, rules)) c.in_ok-n.was begins refl refl

@@ -1,0 +1,2 @@
+-- What copying a domain asks and leaves.
+pub mod Copying
