@@ -1,6 +1,6 @@
 """Holds the table "Every public function leaves nothing open" in docs/PROMISES.md against the code: each public function is
 named there once with its crate, and nothing else is. A function that a public trait declares is `Trait::name` there, and one
-that a public type has from `Display` or `From` is `Type::name`."""
+that a public type has from `Display`, `Debug` or `From` is `Type::name`."""
 import re
 import sys
 from pathlib import Path
@@ -11,8 +11,10 @@ FUNCTION = re.compile(r'^\s*pub (?:extern "C" )?fn (\w+)', re.MULTILINE)
 TYPE = re.compile(r"^pub (?:struct|enum) (\w+)", re.MULTILINE)
 # The block's name, and its lines up to the brace at their left.
 TRAIT = re.compile(r"^pub trait (\w+)[^{]*\{\n(.*?)^\}", re.MULTILINE | re.DOTALL)
-GIVEN = re.compile(r"^impl(?:<[^>]*>)? (?:\w+::)*(?:Display|From<.*>) for (?:\w+::)*(\w+)[^{]*\{\n(.*?)^\}", re.MULTILINE | re.DOTALL)
+GIVEN = re.compile(r"^impl(?:<[^>]*>)? (?:\w+::)*(?:Display|Debug|From<.*>) for (?:\w+::)*(\w+)[^{]*\{\n(.*?)^\}", re.MULTILINE | re.DOTALL)
 METHOD = re.compile(r"^\s+fn (\w+)", re.MULTILINE)
+# No clause says what a derived `Debug` writes; of the other derives std's clauses fix what each function answers.
+DERIVED = re.compile(r"^#\[derive\([^)]*\bDebug\b[^)]*\)\]\n(?:(?:#|//).*\n)*pub (?:struct|enum) (\w+)", re.MULTILINE)
 
 
 def in_code():
@@ -23,6 +25,7 @@ def in_code():
         found |= {(crate, name) for name in FUNCTION.findall(text)}
         blocks = TRAIT.findall(text) + [block for block in GIVEN.findall(text) if block[0] in types]
         found |= {(crate, f"{owner}::{name}") for owner, body in blocks for name in METHOD.findall(body)}
+        found |= {(crate, f"{owner}::fmt") for owner in DERIVED.findall(text)}
     return found
 
 

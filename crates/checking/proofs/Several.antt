@@ -48,19 +48,19 @@ module _ {s : List ℕ} {F v : ℕ} {c : Cursor} {q : InstructionRead} (e : Inst
         omega (arith, p, wide_most d.instruction)
 
 module _ {s : List ℕ} {v : ℕ} {c : Cursor} {f : Field} (e : field_answer s f ≡ field 10 (before s c)) where
-  output_cut : f ≡ None → Stops s (item (operand v)) c refusal.Ended
+  pub output_cut : f ≡ None → Stops s (item (operand v)) c refusal.Ended
   output_cut u =
       let t = test_cut 10 (from_below 0 v) refusal.Operand (before s c) (by_case (field_answer s) e u) in
       record { is = read_item (operand v) (before s c) ∙ t }
 
   module _ {n : ℕ} {d : Cursor} (u : f ≡ Some (n, d)) where
-    output_stops : v ≤ n → Stops s (item (operand v)) c refusal.Operand
+    pub output_stops : v ≤ n → Stops s (item (operand v)) c refusal.Operand
     output_stops l =
         let g = by_case (field_answer s) e u in
         let t = test_failed 10 (from_below 0 v) refusal.Operand (before s c) g (above_out 0 v n l) in
         record { is = read_item (operand v) (before s c) ∙ t }
 
-    output_on : n < v → GoesOn s (item (operand v)) c d
+    pub output_on : n < v → GoesOn s (item (operand v)) c d
     output_on l =
         let g = by_case (field_answer s) e u in
         let t = test_passed 10 (from_below 0 v) refusal.Operand (before s c) g (between 0 v n zero-le l) in

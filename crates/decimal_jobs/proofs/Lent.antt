@@ -17,7 +17,7 @@ use Rattle.decimal_jobs.specs.Lent.{Leaves}
 use Rattle.decimal_jobs.specs.Out.{OutLists, out_lists, put_out, nothing_out}
 use Rattle.decimal_jobs.specs.In.{InLists, in_lists, put_in, nothing_in}
 
-as_it_was : {A : Type 0} (old : List A) → old ≡ over [] old
+pub as_it_was : {A : Type 0} (old : List A) → old ≡ over [] old
 as_it_was old = over_start old {front = []} refl refl
 
 -- one value is

@@ -1,9 +1,36 @@
 // Runs the documents' worked steps and prints what each answers, a line each.
 #![tactic(auto)]
 
+ghost use Rattle.std.specs.Prelude.{Some, ◌++◌, codes};
+ghost use Rattle.std.specs.Fmt.{decimal, signed_decimal};
+
 use refusals::{Refusal, number_of};
 use rules::{Ball, Matryoshka};
 use std::{fmt, io};
+
+// A ball as it is printed: centre and margin.
+#[derive(Drop)]
+struct BallText(Ball);
+
+// A matryoshka as it is printed: middle, stray and margin.
+#[derive(Drop)]
+struct MatryoshkaText(Matryoshka);
+
+impl fmt::Display for BallText {
+    ghost output = { λ t. Some (signed_decimal t.0.centre ++ codes " " ++ decimal t.0.margin) };
+
+    fn fmt<W: fmt::Write>(&self, f: &mut fmt::Formatter<W>) -> fmt::Result {
+        write!(f, "{} {}", self.0.centre, self.0.margin)
+    }
+}
+
+impl fmt::Display for MatryoshkaText {
+    ghost output = { λ t. Some (signed_decimal t.0.middle ++ codes " " ++ decimal t.0.stray ++ codes " " ++ decimal t.0.margin) };
+
+    fn fmt<W: fmt::Write>(&self, f: &mut fmt::Formatter<W>) -> fmt::Result {
+        write!(f, "{} {} {}", self.0.middle, self.0.stray, self.0.margin)
+    }
+}
 
 fn say<T: fmt::Display + Drop>(
     rt: &impl Print,
@@ -36,12 +63,12 @@ fn small_products(rt: &impl Print) -> io::Result<()> {
     say(
         rt,
         "F 4: (24,3) times (-10,2) is ",
-        balls::steps::multiply(4, x, y),
+        balls::steps::multiply(4, x, y).map(BallText),
     )?;
     say(
         rt,
         "F 4: (1,0) times (1,0) is ",
-        balls::steps::multiply(4, one, one),
+        balls::steps::multiply(4, one, one).map(BallText),
     )?;
     let up = Ball {
         centre: 8,
@@ -50,7 +77,7 @@ fn small_products(rt: &impl Print) -> io::Result<()> {
     say(
         rt,
         "F 4: (8,0) times (1,0) is ",
-        balls::steps::multiply(4, up, one),
+        balls::steps::multiply(4, up, one).map(BallText),
     )?;
     let tie = Ball {
         centre: -8,
@@ -59,7 +86,7 @@ fn small_products(rt: &impl Print) -> io::Result<()> {
     say(
         rt,
         "F 4: (-8,0) times (1,0) is ",
-        balls::steps::multiply(4, tie, one),
+        balls::steps::multiply(4, tie, one).map(BallText),
     )?;
     let down = Ball {
         centre: -9,
@@ -68,7 +95,7 @@ fn small_products(rt: &impl Print) -> io::Result<()> {
     say(
         rt,
         "F 4: (-9,0) times (1,0) is ",
-        balls::steps::multiply(4, down, one),
+        balls::steps::multiply(4, down, one).map(BallText),
     )?;
     Ok(())
 }
@@ -86,7 +113,7 @@ fn whole_units(rt: &impl Print) -> io::Result<()> {
     say(
         rt,
         "F 0: (3,1) times (-5,2) is ",
-        balls::steps::multiply(0, x, y),
+        balls::steps::multiply(0, x, y).map(BallText),
     )?;
     let last = Ball {
         centre: 2147483646,
@@ -103,12 +130,12 @@ fn whole_units(rt: &impl Print) -> io::Result<()> {
     say(
         rt,
         "F 0: (2147483646,1) plus (0,0) is ",
-        balls::steps::add(last, none),
+        balls::steps::add(last, none).map(BallText),
     )?;
     say(
         rt,
         "F 0: (2147483646,1) plus (0,1) is ",
-        balls::steps::add(last, doubt),
+        balls::steps::add(last, doubt).map(BallText),
     )?;
     Ok(())
 }
@@ -127,7 +154,7 @@ fn static_products(rt: &impl Print) -> io::Result<()> {
     say(
         rt,
         "F 4: (24,3,1) times (-10,2,1) is ",
-        matryoshki::steps::multiply(4, x, y),
+        matryoshki::steps::multiply(4, x, y).map(MatryoshkaText),
     )?;
     let one = Matryoshka {
         middle: 1,
@@ -137,7 +164,7 @@ fn static_products(rt: &impl Print) -> io::Result<()> {
     say(
         rt,
         "F 4: (1,0,0) times (1,0,0) is ",
-        matryoshki::steps::multiply(4, one, one),
+        matryoshki::steps::multiply(4, one, one).map(MatryoshkaText),
     )?;
     let unit = Matryoshka {
         middle: 16,
@@ -152,7 +179,7 @@ fn static_products(rt: &impl Print) -> io::Result<()> {
     say(
         rt,
         "F 4: (16,0,0) times (5,2,0) is ",
-        matryoshki::steps::multiply(4, unit, z),
+        matryoshki::steps::multiply(4, unit, z).map(MatryoshkaText),
     )?;
     Ok(())
 }
@@ -162,7 +189,7 @@ fn tenths(rt: &impl Print) -> io::Result<()> {
     say(
         rt,
         "F 4: the coefficient (2,1) is ",
-        balls::steps::coefficient(2, 1),
+        balls::steps::coefficient(2, 1).map(BallText),
     )?;
     let tenth = Ball {
         centre: 2,
@@ -179,12 +206,12 @@ fn tenths(rt: &impl Print) -> io::Result<()> {
     say(
         rt,
         "F 4: (2,1) times (80,0) is ",
-        balls::steps::multiply(4, tenth, reading),
+        balls::steps::multiply(4, tenth, reading).map(BallText),
     )?;
     say(
         rt,
         "F 4: (2,0) times (80,0) is ",
-        balls::steps::multiply(4, exact, reading),
+        balls::steps::multiply(4, exact, reading).map(BallText),
     )?;
     Ok(())
 }
@@ -193,7 +220,7 @@ fn static_tenths(rt: &impl Print) -> io::Result<()> {
     say(
         rt,
         "F 4: the static coefficient (2,1) is ",
-        matryoshki::steps::coefficient(2, 1),
+        matryoshki::steps::coefficient(2, 1).map(MatryoshkaText),
     )?;
     let tenth = Matryoshka {
         middle: 2,
@@ -213,12 +240,12 @@ fn static_tenths(rt: &impl Print) -> io::Result<()> {
     say(
         rt,
         "F 4: (2,0,1) times (80,16,0) is ",
-        matryoshki::steps::multiply(4, tenth, reading),
+        matryoshki::steps::multiply(4, tenth, reading).map(MatryoshkaText),
     )?;
     say(
         rt,
         "F 4: (2,0,0) times (80,16,0) is ",
-        matryoshki::steps::multiply(4, exact, reading),
+        matryoshki::steps::multiply(4, exact, reading).map(MatryoshkaText),
     )?;
     Ok(())
 }

@@ -36,7 +36,7 @@ raw_small (Multiply a b) p = (omega arith, omega arith, omega arith)
 raw_small (Coefficient c r) p = (omega arith, omega arith, omega arith)
 raw_small (Reciprocal a) p = (omega arith, omega arith, omega arith)
 
-allowed_back : (z : ℤ) → Allowed z → back z ≡ z
+pub allowed_back : (z : ℤ) → Allowed z → back z ≡ z
 allowed_back z l = back_is z (omega arith)
 
 module _ {part : RawInstruction → ℤ} {s : List ℕ} {h : Header} {old : List ℤ} where

@@ -58,7 +58,7 @@ two_arguments (suc (suc (suc (suc (suc k))))) F v a b l h = absurd (omega arith)
 
 -- ---- what the instruction's tests say of its numbers
 
-encoded_allowed : (z : ℤ) → Allowed z → encoded z < 2 ^ 32
+pub encoded_allowed : (z : ℤ) → Allowed z → encoded z < 2 ^ 32
 encoded_allowed (pos n) a = omega arith
 encoded_allowed (negsuc n) a = omega arith
 
@@ -142,7 +142,7 @@ module _ {c a b : ℤ} {w : Writer} {out : List ℕ} (p : InstructionPuttable (r
       operand_named = named (as_form e).low (fields e).1.0
 
       module _ {x : ℕ} (first : x ≡ encoded (back a)) where
-        one_room : MayPut w 13 (1024 + x) out
+        pub one_room : MayPut w 13 (1024 + x) out
         one_room =
             record {
               narrow = omega arith;
@@ -211,7 +211,7 @@ module _ {c a b : ℤ} {w : Writer} {out : List ℕ} (p : InstructionPuttable (r
       divisor_named = named (as_form e).low (fields e).1.1.0
 
       module _ {x : ℕ} (first : x ≡ encoded (back a)) where
-        divisor_room : MayPut w 13 (6144 + x) out
+        pub divisor_room : MayPut w 13 (6144 + x) out
         divisor_room =
             record {
               narrow = omega arith;
@@ -250,7 +250,7 @@ module _ {c a b : ℤ} {w : Writer} {out : List ℕ} (p : InstructionPuttable (r
 
       module _ (fa : SFits w64 a) {x : ℕ} (first : x ≡ encoded (back a)) (fb : SFits w64 b) {y : ℕ}
           (second : y ≡ encoded (back b)) where
-        two_room : MayPut w 23 ((n * 1024 + x) * 1024 + y) out
+        pub two_room : MayPut w 23 ((n * 1024 + x) * 1024 + y) out
         two_room =
             record {
               narrow = omega arith;

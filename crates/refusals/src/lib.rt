@@ -6,7 +6,7 @@ ghost use Rattle.std.specs.Prelude.{◌≡◌};
 ghost use Rattle.refusals.specs.Refusals.{refusal_number};
 
 // In the order of the numbers; 9 is none, and 21 and 23 are not given yet.
-#[derive(Clone, Copy, Debug, PartialEq, Eq)]
+#[derive(Clone, Copy, PartialEq, Eq)]
 pub enum Refusal {
     Ended = 1,
     Version = 2,
@@ -35,7 +35,7 @@ pub enum Refusal {
 }
 
 // A refusal, and its place: the reading's index or, for 11 and 17, the instruction's.
-#[derive(Clone, Copy, Debug, PartialEq, Eq)]
+#[derive(Clone, Copy, PartialEq, Eq)]
 pub struct Refused {
     pub why: Refusal,
     pub place: usize,

@@ -8,6 +8,5 @@ pub mod Plain
 pub mod Balls
 pub mod Matryoshki
 pub mod Lists
-pub mod Printed
 pub mod Exact
 pub mod Figures
