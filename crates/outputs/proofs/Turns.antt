@@ -45,9 +45,6 @@ module _ {s : List ℕ} {c : Cursor} {count n m : ℕ} (p : Pickable s c count n
   pub results_many : length (meant s).results ≡ count
   results_many = ap length results_named ∙ length_named count (before s c)
 
-  pub result_below : (k : ℕ) → k < length (meant s).results → get_or (meant s).results k 0 < places (meant s).header
-  result_below k l = omega (arith, ap (λ (os : List ℕ). get_or os k 0) results_named, read_all.small k (omega (arith, l, results_many)))
-
   module _ {at : Cursor} {k : ℕ} (turn : Past c at count k) where
     pub field_near : at.at ≤ 2 ^ 32
     field_near = omega (arith, turn.past, turn.some, p.few, p.at_outputs.near)

@@ -16,18 +16,18 @@ pub record Pickable (s : List ℕ) (c : Cursor) (count work output : ℕ) : Type
   pub enough : places (meant s).header ≤ work
   pub room : count ≤ output
 
--- the values that the outputs name, among those that stand in the lists
-abbrev pub outputs_in : (K : Kind) → List ℕ → K.Lists → List K.Value
-outputs_in K s work = map (λ o. get_or (K.front (places (meant s).header) work) o K.nothing) (meant s).results
-
-pub record Picks (K : Kind) (s : List ℕ) (work old new : K.Lists) : Type 0 where
-  pub holds : K.Holds (outputs_in K s work) old new
-
 -- what stands at the places named; d stands where none is
 abbrev pub at_places : {A : Type 0} → A → List ℕ → List A → List A
 at_places d os work = map (λ o. get_or work o d) os
 
--- the same of balls and of matryoshki, list by list
+-- the values that the outputs name, among those that stand in the lists
+abbrev pub outputs_in : (K : Kind) → List ℕ → K.Lists → List K.Value
+outputs_in K s work = at_places K.nothing (meant s).results (K.front (places (meant s).header) work)
+
+pub record Picks (K : Kind) (s : List ℕ) (work old new : K.Lists) : Type 0 where
+  pub holds : K.Holds (outputs_in K s work) old new
+
+-- the same list by list, of balls and of matryoshki
 pub record PicksBalls (os : List ℕ) (work old new : BallLists) : Type 0 where
   pub centres_picked : new.centres ≡ over (at_places (pos 0) os work.centres) old.centres
   pub margins_picked : new.margins ≡ over (at_places 0 os work.margins) old.margins
