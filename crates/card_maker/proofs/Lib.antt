@@ -4,6 +4,7 @@ pub mod Carried
 pub mod Admitted
 pub mod Graded
 pub mod Picked
+pub mod Written
 pub mod Filed
 pub mod Made
 pub mod Kept

@@ -49,7 +49,7 @@ module _ {os : List ℤ} {n : ℕ} {work old now : List ℕ} {k : ℕ} (w : Pick
 -- ---- a row an output
 
 -- a row behind those in front
-row_behind : (front mid old now : List ℕ) {a k : ℕ} → now ≡ over front old → length front ≡ a → length mid ≡ k → a + k ≤ length now
+pub row_behind : (front mid old now : List ℕ) {a k : ℕ} → now ≡ over front old → length front ≡ a → length mid ≡ k → a + k ≤ length now
     → put_mid a k now mid ≡ over (front ++ mid) old
 row_behind front mid old now {a} {k} e f g room =
     sym (take-append-drop (a + k) (put_mid a k now mid))
@@ -69,6 +69,13 @@ row_behind front mid old now {a} {k} e f g room =
     rest =
         ap₂ drop whole e ∙ drop-append-add front (drop (length front) old) k ∙ drop-drop k (length front) old
         ∙ ap (λ (n : ℕ). drop n old) both
+
+-- the rows of the first k, and one more
+pub rows_grow : {A : Type 0} (f : A → List ℕ) (os : List A) (k : ℕ) (d : A) → k < length os
+    → flat (map f (take (k + 1) os)) ≡ flat (map f (take k os)) ++ f (get_or os k d)
+rows_grow f os k d l =
+    ap (λ ns. flat (map f ns)) (take_more os k d l) ∙ ap flat (map-append f (take k os) (get_or os k d ∷ []))
+    ∙ flat_behind (map f (take k os)) (f (get_or os k d))
 
 pub record RowsPicking (os : List ℤ) (n m : ℕ) (work old now : List ℕ) (k : ℕ) : Type 0 where
   pub asked : RowsPickable os n m work old
@@ -120,8 +127,4 @@ module _ {os : List ℤ} {n m : ℕ} {work old now : List ℕ} {k : ℕ} (w : Ro
       behind = row_behind front mid old now w.are w.front_long (mid_long ∙ sym f) (omega (arith, out_inside))
 
       grown : flat (picked_rows os (k + 1) m work) ≡ flat (picked_rows os k m work) ++ mid
-      grown =
-          ap (λ ns. flat (map (λ o. row m (nat_abs o * m) work) ns)) (take_more os k (pos 0) (omega (arith, w.asked.named)))
-          ∙ ap flat (map-append (λ o. row m (nat_abs o * m) work) (take k os) (z ∷ []))
-          ∙ flat_behind (picked_rows os k m work) (row m (nat_abs z * m) work)
-          ∙ ap (λ l. front ++ l) (sym mid_is)
+      grown = rows_grow (λ o. row m (nat_abs o * m) work) os k (pos 0) (omega (arith, w.asked.named)) ∙ ap (λ l. front ++ l) (sym mid_is)

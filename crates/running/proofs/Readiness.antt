@@ -85,6 +85,26 @@ module _ (K : Kind) {s : List ℕ} {given : K.Readings} {work output : ℕ} {c :
     pub ready_tested : {r : Start} → Tests h v work output r → Ready K s given work output r
     ready_tested u = record { answers = u.answers ∙ sym (by_room K s given work output checks t judged) }
 
+    pub ready_misread : {e : Refused} {r : Start} → v ≡ Err e → IsErrAnd r (λ x. x ≡ e) → Ready K s given work output r
+    ready_misread u x = subst (Ready K s given work output) (sym (passed_on x)) (record { answers = sym (by_room K s given work output checks t judged ∙ then_refused _ (ap verdict_says u)) })
+
+    module _ (u : v ≡ Ok tt) {x : ℕ} (p : x ≡ work) {room : Bool} (b : room ≡ roomy h x output) where
+      pub ready_cramped : {q : Refused} → q ≡ because refusal.NoRoom 0 → room ≡ false → Ready K s given work output (Err q)
+      ready_cramped r n =
+          subst (λ (q : Refused). Ready K s given work output (Err q)) (sym r)
+          (record { answers = sym (by_room K s given work output checks t judged ∙ then_value _ (ap verdict_says u) ∙ with_room n) })
+        where
+          with_room : {t : Bool} → room ≡ t → elsewhere (if_room (roomy h work output) h) ≡ elsewhere (if_room t h)
+          with_room e = ap (λ (t : Bool). elsewhere (if_room t h)) (sym (ap (λ (n : ℕ). roomy h n output) p) ∙ sym b ∙ e)
+
+      pub ready_passes : room ≡ true → Ready K s given work output (Ok h)
+      ready_passes n =
+          record {
+            answers =
+                sym (by_room K s given work output checks t judged ∙ then_value _ (ap verdict_says u)
+                ∙ ap (λ (t : Bool). elsewhere (if_room t h)) (sym (ap (λ (n : ℕ). roomy h n output) p) ∙ sym b ∙ n));
+          }
+
 -- what a run does next
 module _ {K : Kind} (law : Lawful K) {s : List ℕ} {given : K.Readings} {old : Lent K} {work output : ℕ} {r : Start}
     (ready : Ready K s given work output r) (w : work ≡ K.room old.work) (o : output ≡ K.room old.output) where
