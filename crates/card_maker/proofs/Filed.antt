@@ -31,16 +31,19 @@ module _ {s : List ℕ} {h : Header} {c : Cursor} {margins slopes : List ℕ} {o
   as_many : length (map pos (meant s).results) ≡ h.outputs
   as_many = length-map (meant s).results pos ∙ there.well.results_long ∙ same_outputs
 
-  -- at most 16 outputs
-  pub outputs_pickable : picking.Pickable s c h.outputs (places (meant s).header) 16
-  outputs_pickable =
+  pub pickable_in : {work room : ℕ} → places (meant s).header ≤ work → h.outputs ≤ room → picking.Pickable s c h.outputs work room
+  pickable_in enough room =
       record {
         at_outputs = p.at_outputs;
         counts = sym same_outputs;
         few = (limits_of there).outputs_few;
-        enough = omega arith;
-        room = (limits_of there).outputs_few;
+        enough = enough;
+        room = room;
       }
+
+  -- at most 16 outputs
+  pub outputs_pickable : picking.Pickable s c h.outputs (places (meant s).header) 16
+  outputs_pickable = pickable_in (omega arith) (limits_of there).outputs_few
 
   module _ (outputs : List ℤ) (room : length outputs ≡ 16) {os : List ℤ} (filled : os ≡ over (parts_in s).outputs outputs) where
     in_front : take h.outputs os ≡ map pos (meant s).results

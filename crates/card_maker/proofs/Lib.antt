@@ -3,9 +3,10 @@ pub mod Rest
 pub mod Carried
 pub mod Admitted
 pub mod Graded
+pub mod Rows
 pub mod Picked
-pub mod Written
 pub mod Filed
+pub mod Written
 pub mod Made
 pub mod Kept
 pub mod OneCard

@@ -1,18 +1,16 @@
 -- A card's two lists in the code's shape, output by output. Assumes nothing.
-use mathlib.Core.Path.{◌≡◌, sym, ◌∙◌, ap, ap₂}
-use mathlib.Core.List.{List, ◌++◌, map}
+use mathlib.Core.Path.{◌≡◌, sym, ◌∙◌, ap}
+use mathlib.Core.List.{List, map}
 use Prim.Native.Nat.{ℕ, ◌+◌, ◌*◌, ◌≤◌, ◌<◌}
-use native.Mathlib.Nat.{le_refl, mul-le-mul}
 use native.Mathlib.Omega.{arith}
 use borrow.Rule.Slice.PartMut.{put_mid}
-use lib.ListN.{length, get_or, take, drop, set, length-append, length-map, length-drop, get_or-map}
+use lib.ListN.{length, get_or, take, drop, set, length-map, get_or-map}
 use mir.Syntax.{w64}
 use mir.Val.{Fits}
-use lib.Seq.{take_all, length-take-le}
+use lib.Seq.{take_all}
 use Rattle.std.specs.declared.option.Option.TheVariants.{Some}
 use Rattle.lists.specs.Over.{over}
 use Rattle.lists.proofs.Front.{Filled, filled_one, filled_all}
-use Rattle.lists.proofs.Over.{over_long}
 use Rattle.bits.specs.declared.Cursor.{Cursor}
 use Rattle.formulas.specs.declared.Header.{Header}
 use Rattle.formulas.specs.Formula.{places}
@@ -26,7 +24,8 @@ use Rattle.cards.specs.Card.{flat}
 use Rattle.cards.specs.Lent.{CardLists}
 use Rattle.slope_walk.specs.Grading.{row}
 use Rattle.card_maker.specs.Parts.{all_places, all_slopes, Writable, Writes, card_lists}
-use Rattle.card_maker.proofs.Picked.{row_behind, rows_grow}
+use Rattle.card_maker.proofs.Rows.{RowsStand, row_within, value_row, row_stands}
+use Rattle.card_maker.proofs.Filed.{pickable_in}
 
 -- those of the first k outputs are written
 pub record Writing (s : List ℕ) (h : Header) (c : Cursor) (margins slopes : List ℕ) (old now : CardLists) (k : ℕ) : Type 0 where
@@ -42,20 +41,12 @@ module _ {s : List ℕ} {h : Header} {c : Cursor} {margins slopes : List ℕ} {o
 
   pub write_pickable : Pickable s c h.outputs all_places (length old.static)
   write_pickable =
-      record {
-        at_outputs = p.at_outputs;
-        counts = sym (ap (λ (a : Header). a.outputs) there.is_header);
-        few = (limits_of there).outputs_few;
-        enough = omega (arith, ap places there.is_header, (limits_of there).inputs_few, (limits_of there).instructions_few);
-        room = p.static_room;
-      }
+      pickable_in p (omega (arith, ap places there.is_header, (limits_of there).inputs_few, (limits_of there).instructions_few)) p.static_room
 
   -- the row of a value
   module _ {n : ℕ} (below : n < all_places) where
     row_end : n * h.inputs + h.inputs ≤ all_slopes
-    row_end =
-        let next : n + 1 ≤ all_places = omega (arith, below) in
-        omega (arith, mul-le-mul next (limits_of there).inputs_few)
+    row_end = value_row below (limits_of there).inputs_few
 
     pub start_fits : Fits w64 (n * h.inputs)
     start_fits = record { fits = omega (arith, row_end) }
@@ -92,26 +83,21 @@ module _ {s : List ℕ} {h : Header} {c : Cursor} {margins slopes : List ℕ} {o
     pub value_inside : x.0 < length margins
     value_inside = omega (arith, below, p.margins_there)
 
-    row_inside : (x.0 + 1) * h.inputs ≤ length slopes
-    row_inside = row_ends p below
-
-    out_inside : k * h.inputs + h.inputs ≤ length now.slopes
-    out_inside =
-        let next : k + 1 ≤ h.outputs = omega arith in
-        omega (arith, mul-le-mul next (le_refl h.inputs), p.slope_room, w.slopes_long)
-
     pub writing_more : {mid : List ℕ} {len n : ℕ} → mid ≡ take n (drop (x.0 * h.inputs) slopes) → n ≡ h.inputs → len ≡ h.inputs
         → Writing s h c margins slopes old
         (card_lists (set now.static k (get_or margins x.0 0)) (put_mid (k * h.inputs) len now.slopes mid)) (k + 1)
-    writing_more {mid} {len} {n} e d f =
+    writing_more e d f =
+        let one =
+        row_stands 0 stand (omega (arith, results_many (write_pickable p))) (omega (arith, row_within h.inputs more, p.slope_room, w.slopes_long)) is
+        (omega (arith, row_ends p below)) e d f in
         record {
           writable = p;
           static =
               filled_one (map (λ o. get_or margins o 0) (meant s).results) old.static (get_or margins 0 0) (omega (arith, many, p.static_room)) (omega (arith, many))
               (ap (λ o. get_or margins o 0) is ∙ sym (get_or-map (λ o. get_or margins o 0) (meant s).results k 0)) w.static;
-          slopes_long = ap length behind ∙ over_long (front ++ mid) old.slopes (omega (arith, both_long, out_inside, w.slopes_long));
-          front_long = ap length grown ∙ both_long ∙ omega arith;
-          slopes_are = behind ∙ ap (λ l. over l old.slopes) (sym grown);
+          slopes_long = one.as_long;
+          front_long = one.front_long;
+          slopes_are = one.are;
         }
       where
         many : length (map (λ o. get_or margins o 0) (meant s).results) ≡ h.outputs
@@ -120,21 +106,5 @@ module _ {s : List ℕ} {h : Header} {c : Cursor} {margins slopes : List ℕ} {o
         is : x.0 ≡ get_or (meant s).results k 0
         is = is_output (write_pickable p) turn more reads got
 
-        front : List ℕ
-        front = flat (map (λ o. row h.inputs (o * h.inputs) slopes) (take k (meant s).results))
-
-        mid_is : mid ≡ row h.inputs (get_or (meant s).results k 0 * h.inputs) slopes
-        mid_is = e ∙ ap₂ (λ a o. take a (drop (o * h.inputs) slopes)) d is
-
-        mid_long : length mid ≡ h.inputs
-        mid_long = ap length e ∙ length-take-le n (drop (x.0 * h.inputs) slopes) (omega (arith, length-drop (x.0 * h.inputs) slopes, row_inside)) ∙ d
-
-        both_long : length (front ++ mid) ≡ k * h.inputs + h.inputs
-        both_long = length-append front mid ∙ omega (arith, w.front_long, mid_long)
-
-        behind : put_mid (k * h.inputs) len now.slopes mid ≡ over (front ++ mid) old.slopes
-        behind = row_behind front mid old.slopes now.slopes w.slopes_are w.front_long (mid_long ∙ sym f) (omega (arith, out_inside))
-
-        grown : flat (map (λ o. row h.inputs (o * h.inputs) slopes) (take (k + 1) (meant s).results))
-            ≡ flat (map (λ o. row h.inputs (o * h.inputs) slopes) (take k (meant s).results)) ++ mid
-        grown = rows_grow (λ o. row h.inputs (o * h.inputs) slopes) (meant s).results k 0 (omega (arith, results_many (write_pickable p))) ∙ ap (λ l. front ++ l) (sym mid_is)
+        stand : RowsStand (λ (o : ℕ). o) (meant s).results h.inputs slopes old.slopes now.slopes k
+        stand = record { as_long = w.slopes_long; front_long = w.front_long; are = w.slopes_are }

@@ -72,6 +72,12 @@ by_room K s given work output checks {h} t j =
     by_test (value x) false = refl
     by_test (refused w) t = refl
 
+-- where the readings passed, the room decides
+by_fit : (h : Header) (output : ℕ) {v : Verdict} {work x : ℕ} {room : Bool} → v ≡ Ok tt → x ≡ work → room ≡ roomy h x output → {t : Bool} → room ≡ t
+    → then (verdict_says v) (λ x. elsewhere (if_room (roomy h work output) h)) ≡ elsewhere (if_room t h)
+by_fit h output u p b e =
+    then_value _ (ap verdict_says u) ∙ ap (λ (t : Bool). elsewhere (if_room t h)) (sym (ap (λ (n : ℕ). roomy h n output) p) ∙ sym b ∙ e)
+
 -- what was read and tested starts the run
 module _ (K : Kind) {s : List ℕ} {given : K.Readings} {work output : ℕ} {c : Checked} (checks : check_answer c ≡ checked s) where
   pub ready_unread : {q : Refusal} {r : Start} → c ≡ Err q → IsErrAnd r (λ e. e ≡ because q 0) → Ready K s given work output r
@@ -86,24 +92,14 @@ module _ (K : Kind) {s : List ℕ} {given : K.Readings} {work output : ℕ} {c :
     ready_tested u = record { answers = u.answers ∙ sym (by_room K s given work output checks t judged) }
 
     pub ready_misread : {e : Refused} {r : Start} → v ≡ Err e → IsErrAnd r (λ x. x ≡ e) → Ready K s given work output r
-    ready_misread u x = subst (Ready K s given work output) (sym (passed_on x)) (record { answers = sym (by_room K s given work output checks t judged ∙ then_refused _ (ap verdict_says u)) })
+    ready_misread u x = subst (Ready K s given work output) (sym (passed_on x)) (ready_tested (record { answers = sym (then_refused _ (ap verdict_says u)) }))
 
     module _ (u : v ≡ Ok tt) {x : ℕ} (p : x ≡ work) {room : Bool} (b : room ≡ roomy h x output) where
       pub ready_cramped : {q : Refused} → q ≡ because refusal.NoRoom 0 → room ≡ false → Ready K s given work output (Err q)
-      ready_cramped r n =
-          subst (λ (q : Refused). Ready K s given work output (Err q)) (sym r)
-          (record { answers = sym (by_room K s given work output checks t judged ∙ then_value _ (ap verdict_says u) ∙ with_room n) })
-        where
-          with_room : {t : Bool} → room ≡ t → elsewhere (if_room (roomy h work output) h) ≡ elsewhere (if_room t h)
-          with_room e = ap (λ (t : Bool). elsewhere (if_room t h)) (sym (ap (λ (n : ℕ). roomy h n output) p) ∙ sym b ∙ e)
+      ready_cramped r n = subst (λ (q : Refused). Ready K s given work output (Err q)) (sym r) (ready_tested (record { answers = sym (by_fit h output u p b n) }))
 
       pub ready_passes : room ≡ true → Ready K s given work output (Ok h)
-      ready_passes n =
-          record {
-            answers =
-                sym (by_room K s given work output checks t judged ∙ then_value _ (ap verdict_says u)
-                ∙ ap (λ (t : Bool). elsewhere (if_room t h)) (sym (ap (λ (n : ℕ). roomy h n output) p) ∙ sym b ∙ n));
-          }
+      ready_passes n = ready_tested (record { answers = sym (by_fit h output u p b n) })
 
 -- what a run does next
 module _ {K : Kind} (law : Lawful K) {s : List ℕ} {given : K.Readings} {old : Lent K} {work output : ℕ} {r : Start}
